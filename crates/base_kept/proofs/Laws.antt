@@ -1,5 +1,6 @@
 -- What is kept of a list by marks: what stands at its places, and what is kept of lists that are joined, mapped or chosen from others.
-use Rattle.base_lists.proofs.Common.{◌≡◌, ◌∙◌, ap, sym, subst, refl, ℕ, zero, suc, ◌+◌, ◌<◌, ◌≤◌, List, [], ◌∷◌, ◌++◌, map, take, drop, length, replicate, Option, Some, None, is_some, Bool, true, false, cond, arith, slice_get, slice_index, true≢false, reverse, append_assoc, Contains, cons_option, reverse-append, map-append, slice_get_within, slice_get-get_or, get_or_from_slice_get, map_numbers_index, numbers_more}
+use Rattle.base_lists.proofs.Common.{◌≡◌, ◌∙◌, ap, sym, subst, refl, ℕ, zero, suc, ◌+◌, ◌<◌, ◌≤◌, List, [], ◌∷◌, ◌++◌, map, take, drop, length, replicate, Option, Some, None, is_some, Bool, true, false, cond, arith, slice_get, slice_index, true≢false, reverse, append_assoc, Contains, cons_option}
+use Rattle.base_lists.proofs.Common.{reverse-append, map-append, slice_get_within, slice_get-get_or, get_or_from_slice_get, map_numbers_index, numbers_more}
 use Rattle.std.proofs.Common.{filter_map}
 use Rattle.std.proofs.lemmas.List.{append-nil}
 use Rattle.base_lists.specs.Places.{numbers, places}
@@ -176,7 +177,8 @@ kept_chosen {A} {B} test f is (b ∷ bs) cs (x ∷ xs) from l m h = by (λ cs. k
     chosen false true y ys cs s e on = absurd (true≢false (sym s))
 
     by : ((cs : List Bool) → length (filter_map f xs) ≤ length cs → AreKeptAlike test bs cs xs (suc from) → filter_map f (kept bs xs) ≡ kept cs (filter_map f xs)) → (o : Option B) (t : Bool) → f x ≡ o → test x ≡ t → is_some (f x) ≡ test x → (cs : List Bool) →
-        length (cons_option (f x) (filter_map f xs)) ≤ length cs → ((i n : ℕ) → slice_get (cond (test x) (from ∷ places test xs (suc from)) (places test xs (suc from))) i ≡ Some (from + n) → is_marked (b ∷ bs) n ≡ is_marked cs i) → filter_map f (cond b (x ∷ kept bs xs) (kept bs xs)) ≡ kept cs (cons_option (f x) (filter_map f xs))
+        length (cons_option (f x) (filter_map f xs)) ≤ length cs → ((i n : ℕ) → slice_get (cond (test x) (from ∷ places test xs (suc from)) (places test xs (suc from))) i ≡ Some (from + n) → is_marked (b ∷ bs) n ≡ is_marked cs i) → filter_map f (cond b (x ∷ kept bs xs) (kept bs xs)) ≡
+            kept cs (cons_option (f x) (filter_map f xs))
     by on None true e g s cs m h = absurd (true≢false (sym g ∙ sym s ∙ ap is_some e))
     by on (Some y) false e g s cs m h = absurd (true≢false (sym (ap is_some e) ∙ s ∙ g))
     by on None false e g s cs m h =

@@ -1,5 +1,6 @@
 -- Marks of the numbers that a list names: how they are set, and what stands at a place of them.
-use Rattle.base_lists.proofs.Common.{◌≡◌, ℕ, zero, suc, ◌+◌, ◌<◌, ◌≢◌, Bool, true, false, ◌||◌, nat_eq, List, [], ◌∷◌, ◌++◌, length, drop, get_or, Some, refl, sym, ap, ◌∙◌, arith, append_assoc, append-nil, zero-add, add-zero, slice_get, slice_set, replicate, flat_map, list_any, at_drop_more, list_any-append, nat_tests, eq-eqb, or-true, or-false}
+use Rattle.base_lists.proofs.Common.{◌≡◌, ℕ, zero, suc, ◌+◌, ◌<◌, ◌≢◌, Bool, true, false, ◌||◌, nat_eq, List, [], ◌∷◌, ◌++◌, length, drop, get_or, Some, refl, sym, ap, ◌∙◌, arith, append_assoc, append-nil, zero-add, add-zero, slice_get, slice_set, replicate, flat_map, list_any, at_drop_more}
+use Rattle.base_lists.proofs.Common.{list_any-append, nat_tests, eq-eqb, or-true, or-false}
 use Rattle.base_lists.specs.Members.{is_among}
 use Rattle.base_kept.specs.Marks.{named_from, marked_all}
 

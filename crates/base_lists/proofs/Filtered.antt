@@ -105,7 +105,8 @@ place_of {A} {B} test f (y ∷ ys) e from i n h = by (λ i h. place_of test f ys
     more_at : (i : ℕ) → (k : ℕ) × (x : A) × (n ≡ suc from + k) × (slice_get ys k ≡ Some x) × (test x ≡ true) × (slice_get (filter_map f ys) i ≡ f x) → (k : ℕ) × (x : A) × (n ≡ from + k) × (slice_get (y ∷ ys) k ≡ Some x) × (test x ≡ true) × (slice_get (filter_map f ys) i ≡ f x)
     more_at i r = let d = r.2 in (suc r.0, r.1, omega (arith, d), r.3, r.4, r.5)
 
-    by : ((i : ℕ) → slice_get (places test ys (suc from)) i ≡ Some n → (k : ℕ) × (x : A) × (n ≡ suc from + k) × (slice_get ys k ≡ Some x) × (test x ≡ true) × (slice_get (filter_map f ys) i ≡ f x)) → (b : Bool) (o : Option B) → test y ≡ b → f y ≡ o → is_some o ≡ test y → (i : ℕ) → slice_get (cond b (from ∷ places test ys (suc from)) (places test ys (suc from))) i ≡ Some n →
+    by : ((i : ℕ) → slice_get (places test ys (suc from)) i ≡ Some n → (k : ℕ) × (x : A) × (n ≡ suc from + k) × (slice_get ys k ≡ Some x) × (test x ≡ true) × (slice_get (filter_map f ys) i ≡ f x)) → (b : Bool) (o : Option B) → test y ≡ b → f y ≡ o → is_some o ≡ test y → (i : ℕ) →
+        slice_get (cond b (from ∷ places test ys (suc from)) (places test ys (suc from))) i ≡ Some n →
         (k : ℕ) × (x : A) × (n ≡ from + k) × (slice_get (y ∷ ys) k ≡ Some x) × (test x ≡ true) × (slice_get (cons_option o (filter_map f ys)) i ≡ f x)
     by on true None t is k i h = absurd (let a : false ≡ true = k ∙ t in cc)
     by on true (Some c) t is k zero h = let same : from ≡ n = cc in (0, y, omega (arith, same), refl, t, sym is)
@@ -205,7 +206,8 @@ pub place_there : {A : Type 0} (test : A → Bool) (xs : List A) (from j : ℕ) 
 place_there test [] from j x h t = absurd (let k = h in cc)
 place_there {A} test (y ∷ ys) from j x h t = by (λ j h. place_there test ys (suc from) j x h t) (test y) refl j h
   where
-    by : ((j : ℕ) → slice_get ys j ≡ Some x → (i : ℕ) × (slice_get (places test ys (suc from)) i ≡ Some (suc from + j))) → (b : Bool) → test y ≡ b → (j : ℕ) → slice_get (y ∷ ys) j ≡ Some x → (i : ℕ) × (slice_get (cond b (from ∷ places test ys (suc from)) (places test ys (suc from))) i ≡ Some (from + j))
+    by : ((j : ℕ) → slice_get ys j ≡ Some x → (i : ℕ) × (slice_get (places test ys (suc from)) i ≡ Some (suc from + j))) → (b : Bool) → test y ≡ b → (j : ℕ) → slice_get (y ∷ ys) j ≡ Some x →
+        (i : ℕ) × (slice_get (cond b (from ∷ places test ys (suc from)) (places test ys (suc from))) i ≡ Some (from + j))
     by on true q zero h = (0, ap Some (let e : from ≡ from + 0 = omega arith in e))
     by on true q (suc j) h = let r = on j h in (suc r.0, r.1 ∙ ap Some (let e : suc from + j ≡ from + suc j = omega arith in e))
     by on false q zero h = let same : y ≡ x = cc in absurd (let a : true ≡ false = sym t ∙ ap test (sym same) ∙ q in cc)

@@ -41,7 +41,8 @@ BudgetedTracesAreBounded S T E =
 -- the same events.
 pub data Answers {S T E : Type 0} (t : Machine S E) (u : Machine T E) (k : ℕ) : (steps : ℕ) → S → T → Type 0 where
   so_far : {s : S} {q : T} → Answers t u k zero s q
-  by_some : {n : ℕ} {s : S} {q : T} (further : ℕ) → suc further ≤ k → events_of u q (suc further) ≡ events_of t s 1 → Answers t u k n (t s).0 (state_after u q (suc further)) → Answers t u k (suc n) s q
+  by_some : {n : ℕ} {s : S} {q : T} (further : ℕ) → suc further ≤ k → events_of u q (suc further) ≡ events_of t s 1 → Answers t u k n (t s).0 (state_after u q (suc further)) →
+      Answers t u k (suc n) s q
 
 -- If the second machine answers any number of steps in this way, the trace of n steps of the first
 -- is a prefix of the trace of k * n steps of the second, and that of n steps of the second a prefix

@@ -1,5 +1,6 @@
 -- A block is taken from the pool for a slot, with the bytes that the slot had.
-use Rattle.base_lists.proofs.Common.{◌≡◌, ◌≢◌, ◌⊎◌, ℕ, ◌+◌, ◌<◌, List, [], ◌∷◌, ◌++◌, length, map, Bool, true, false, Option, Some, None, is_some, slice_set, slice_index, slice_index_or, count_by, replicate, refl, sym, ap, ◌∙◌, inl, inr, arith, true≢false, Contains, vec_capacity, if◌then◌else◌, get_or-replicate, get_or_past, length_push, length-replicate, get_or_default, Contains-push, Contains-push_cases, Contains-append_left, cases_lt, is_some_there}
+use Rattle.base_lists.proofs.Common.{◌≡◌, ◌≢◌, ◌⊎◌, ℕ, ◌+◌, ◌<◌, List, [], ◌∷◌, ◌++◌, length, map, Bool, true, false, Option, Some, None, is_some, slice_set, slice_index, slice_index_or, count_by, replicate, refl, sym, ap, ◌∙◌, inl, inr, arith, true≢false, Contains, vec_capacity, if◌then◌else◌}
+use Rattle.base_lists.proofs.Common.{get_or-replicate, get_or_past, length_push, length-replicate, get_or_default, Contains-push, Contains-push_cases, Contains-append_left, cases_lt, is_some_there}
 use Rattle.std.specs.Prelude.{unwrap_or}
 use Rattle.std.proofs.lemmas.List.{map-set}
 use Rattle.std.proofs.Math.Seq.{map-set_same}
@@ -55,7 +56,8 @@ module _ (t : Table) (sound : IsSound t) where
         let f : count_by is_changed t.slots.items < count_by is_present t.slots.items = count_fewer is_changed is_present changed_present t.slots.items k Absent inside (ap is_changed kept) (ap is_present kept) in
         let g = sound.few in let j = sound.written in let l = sound.most in omega arith
 
-pub taken_replaces : (pool after : Blocks) (slots : List Slot) (k : ℕ) (s : Slot) (b : ℕ) (bytes : List ℕ) → Owns pool slots → k < length slots → held pool b ≡ None → Changes pool after b (Some bytes) → ((c : ℕ) → NamesBlock s c → (c ≡ b) ⊎ NamesBlock (slot_at slots k) c) → ((c : ℕ) → present s ≡ Some c → older s ≡ Some c → ⊥) → Replaces pool after slots k s
+pub taken_replaces : (pool after : Blocks) (slots : List Slot) (k : ℕ) (s : Slot) (b : ℕ) (bytes : List ℕ) → Owns pool slots → k < length slots → held pool b ≡ None → Changes pool after b (Some bytes) → ((c : ℕ) → NamesBlock s c → (c ≡ b) ⊎ NamesBlock (slot_at slots k) c) →
+    ((c : ℕ) → present s ≡ Some c → older s ≡ Some c → ⊥) → Replaces pool after slots k s
 taken_replaces pool after slots k s b bytes owns inside gone changes named apart =
     let other : (c : ℕ) → IsLive pool c → c ≢ b = λ c live e. dead (held pool c) live (rw e gone) in
     record {
@@ -73,7 +75,8 @@ module _ (t u : Table) (k : ℕ) (s : Slot) (owns : Owns t.pool t.slots.items) (
   pub mark_after : (t.marked ≡ true → ((offset : ℕ) → offset < 4096 → byte_in u.pool (before s) offset ≡ byte_in t.pool (before (slot_at t.slots.items k)) offset) × (is_some (before s) ≡ is_some (before (slot_at t.slots.items k)))) → (pages_of u).mark ≡ (pages_of t).mark
   mark_after same =
       rw (marked, m.slots, m.size) (
-      let P : Bool → Type 0 = λ on. (on ≡ true → contents u.pool (slice_set t.slots.items k s) before t.size ≡ contents t.pool t.slots.items before t.size) → (if on then Some (contents u.pool (slice_set t.slots.items k s) before t.size) else None) ≡ (if on then Some (contents t.pool t.slots.items before t.size) else None) in
+      let P : Bool → Type 0 = λ on. (on ≡ true → contents u.pool (slice_set t.slots.items k s) before t.size ≡ contents t.pool t.slots.items before t.size) → (if on then Some (contents u.pool (slice_set t.slots.items k s) before t.size) else None) ≡
+      (if on then Some (contents t.pool t.slots.items before t.size) else None) in
       let cases : P t.marked = elim t.marked as P [ true ↦ λ f. ap Some (f refl) | false ↦ λ f. refl ] in
       cases (λ on. contents_after t.pool u.pool t.slots.items k s owns m.replaces before t.size before_named (same on).0 (same on).1))
 
@@ -181,48 +184,49 @@ module _ (t u : Table) (k b : ℕ) (sound : IsSound t) (takes : Takes t.pool u.p
       let m : Moves t u k (Kept b) = kept_moves c same off in
       (sound_after t u k (Kept b) sound m, kept_claims c m off)
 
-module _ (t u : Table) (k b old : ℕ) (sound : IsSound t) (takes : Takes t.pool u.pool b (held t.pool old)) (kept : slot_at t.slots.items k ≡ Kept old) (c : Claimed t u k (Changed b old)) (written : u.written ≡ t.written) (listed : u.changed.items ≡ t.changed.items ++ k ∷ []) (on : t.marked ≡ true) where
-  old_named : NamesBlock (slot_at t.slots.items k) old
-  old_named = rw kept (inl refl)
+module _ (t u : Table) (k b old : ℕ) (sound : IsSound t) (takes : Takes t.pool u.pool b (held t.pool old)) (kept : slot_at t.slots.items k ≡ Kept old) (c : Claimed t u k (Changed b old)) (written : u.written ≡ t.written) (listed : u.changed.items ≡ t.changed.items ++ k ∷ []) (on : t.marked ≡ true)
+  where
+    old_named : NamesBlock (slot_at t.slots.items k) old
+    old_named = rw kept (inl refl)
 
-  old_live : IsLive t.pool old
-  old_live = sound.owns.live k old old_named
+    old_live : IsLive t.pool old
+    old_live = sound.owns.live k old old_named
 
-  old_other : old ≢ b
-  old_other e = dead (held t.pool old) old_live (rw e takes.fresh)
+    old_other : old ≢ b
+    old_other e = dead (held t.pool old) old_live (rw e takes.fresh)
 
-  aside_moves : (bytes : List ℕ) → held t.pool old ≡ Some bytes → Moves t u k (Changed b old)
-  aside_moves bytes there = record {
-    replaces = taken_replaces t.pool u.pool t.slots.items k (Changed b old) b bytes sound.owns c.inside takes.fresh (rw there at takes.changes)
-        (λ d n. elim n [ inl e ↦ inl (cc) | inr e ↦ inr (rw kept (inl (cc))) ])
-        (λ d e f. old_other (cc));
-    slots = c.slots;
-    size = c.size;
-    most = c.most;
-    numbers = takes.numbers;
-    capacity = c.capacity;
-    written = rw kept (omega (arith, written));
-    account = rw kept (omega (arith, takes.used));
-    blocks = omega (arith, takes.used, takes.spare);
-    fits = omega (arith, written, c.most, sound.most);
-    stays = λ j n h. rw listed (Contains-append_left t.changed.items (k ∷ []) j h);
-    listed = λ _. rw listed (Contains-push t.changed.items k);
-    within = listed_moves t u k listed;
-    few = rw (kept, listed) (omega (arith, length_push t.changed.items k));
-    unmarked = λ off. absurd (true≢false (sym on ∙ (sym c.marked ∙ off)));
-  }
+    aside_moves : (bytes : List ℕ) → held t.pool old ≡ Some bytes → Moves t u k (Changed b old)
+    aside_moves bytes there = record {
+      replaces = taken_replaces t.pool u.pool t.slots.items k (Changed b old) b bytes sound.owns c.inside takes.fresh (rw there at takes.changes)
+          (λ d n. elim n [ inl e ↦ inl (cc) | inr e ↦ inr (rw kept (inl (cc))) ])
+          (λ d e f. old_other (cc));
+      slots = c.slots;
+      size = c.size;
+      most = c.most;
+      numbers = takes.numbers;
+      capacity = c.capacity;
+      written = rw kept (omega (arith, written));
+      account = rw kept (omega (arith, takes.used));
+      blocks = omega (arith, takes.used, takes.spare);
+      fits = omega (arith, written, c.most, sound.most);
+      stays = λ j n h. rw listed (Contains-append_left t.changed.items (k ∷ []) j h);
+      listed = λ _. rw listed (Contains-push t.changed.items k);
+      within = listed_moves t u k listed;
+      few = rw (kept, listed) (omega (arith, length_push t.changed.items k));
+      unmarked = λ off. absurd (true≢false (sym on ∙ (sym c.marked ∙ off)));
+    }
 
-  -- written before the mark, and first since
-  pub aside_done : IsSound u × Claims t u k
-  aside_done =
-      let live : (v : List ℕ) × (held t.pool old ≡ Some v) = is_some_there (held t.pool old) old_live in
-      let m : Moves t u k (Changed b old) = aside_moves live.0 live.1 in (
-        sound_after t u k (Changed b old) sound m,
-        claims_after t u k (Changed b old) sound.owns m c.marked
-            (λ offset h. rw kept (ap (λ o. slice_index (unwrap_or o []) offset) takes.changes.changed))
-            refl
-            (mark_after t u k (Changed b old) sound.owns m c.marked (λ _. rw kept ((λ offset h. ap (λ o. slice_index (unwrap_or o []) offset) (takes.changes.others old old_other)), refl))),
-      )
+    -- written before the mark, and first since
+    pub aside_done : IsSound u × Claims t u k
+    aside_done =
+        let live : (v : List ℕ) × (held t.pool old ≡ Some v) = is_some_there (held t.pool old) old_live in
+        let m : Moves t u k (Changed b old) = aside_moves live.0 live.1 in (
+          sound_after t u k (Changed b old) sound m,
+          claims_after t u k (Changed b old) sound.owns m c.marked
+              (λ offset h. rw kept (ap (λ o. slice_index (unwrap_or o []) offset) takes.changes.changed))
+              refl
+              (mark_after t u k (Changed b old) sound.owns m c.marked (λ _. rw kept ((λ offset h. ap (λ o. slice_index (unwrap_or o []) offset) (takes.changes.others old old_other)), refl))),
+        )
 
 -- a block that counts as written goes on to
 pub claimed_already : (t : Table) (k : ℕ) (s : Slot) → slot_at t.slots.items k ≡ s → is_present s ≡ true → Claims t t k

@@ -48,7 +48,8 @@ module _ (start t u : Table) (to from done n : ℕ) (sound : IsSound u) (fixed :
 
 -- the same from the end: so many bytes are left
 module _ (start t u : Table) (to from count left n : ℕ) (sound : IsSound u) (fixed : IsFixed t u) where
-  pub backward_on : Puts start t (to + left) (part (bytes_of start) (from + left) (count - left)) → from < to → to + count ≤ start.size → left ≤ count → n ≤ left → WritesBytes (pages_of t) (pages_of u) (to + left - n) (part (bytes_of t) (from + left - n) n) → Puts start u (to + (left - n)) (part (bytes_of start) (from + (left - n)) (count - (left - n)))
+  pub backward_on : Puts start t (to + left) (part (bytes_of start) (from + left) (count - left)) → from < to → to + count ≤ start.size → left ≤ count → n ≤ left → WritesBytes (pages_of t) (pages_of u) (to + left - n) (part (bytes_of t) (from + left - n) n) →
+      Puts start u (to + (left - n)) (part (bytes_of start) (from + (left - n)) (count - (left - n)))
   backward_on p order inside small some w =
       let b : List ℕ = bytes_of start in
       let many : length b ≡ start.size = bytes_many start in

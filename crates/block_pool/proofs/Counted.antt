@@ -1,5 +1,6 @@
 -- The blocks that a range reaches are counted one by one.
-use Rattle.base_lists.proofs.Common.{◌≡◌, ◌≢◌, ℕ, suc, ◌+◌, ◌-◌, ◌*◌, ◌/◌, ◌<◌, ◌≤◌, List, [], ◌∷◌, length, map, Bool, true, false, ◌||◌, slice_index_or, slice_set, refl, sym, ap, ap₂, ◌∙◌, inl, inr, arith, zero-add, if◌then◌else◌, cases_eq, cases_Bool, ext_get_or, get_or-set_same, get_or-set_other, length-map, same_tests, or-true, or-false}
+use Rattle.base_lists.proofs.Common.{◌≡◌, ◌≢◌, ℕ, suc, ◌+◌, ◌-◌, ◌*◌, ◌/◌, ◌<◌, ◌≤◌, List, [], ◌∷◌, length, map, Bool, true, false, ◌||◌, slice_index_or, slice_set, refl, sym, ap, ap₂, ◌∙◌, inl, inr, arith, zero-add, if◌then◌else◌, cases_eq, cases_Bool, ext_get_or, get_or-set_same, get_or-set_other}
+use Rattle.base_lists.proofs.Common.{length-map, same_tests, or-true, or-false}
 use Rattle.std.proofs.Common.{length-set}
 use Rattle.std.proofs.lemmas.List.Sums.{count_by-le-length}
 use Rattle.block_pool.specs.Pages.{reaches, with_reached}

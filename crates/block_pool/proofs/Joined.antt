@@ -1,5 +1,6 @@
 -- Two writes that follow one another are one.
-use Rattle.base_lists.proofs.Common.{◌≡◌, ℕ, suc, ◌+◌, ◌-◌, ◌*◌, ◌<◌, ◌≤◌, List, [], ◌∷◌, ◌++◌, length, Bool, true, ◌&&◌, ◌||◌, nat_lt, slice_index, refl, sym, ap, ap₂, ◌∙◌, inl, inr, arith, add-zero, cases_lt, and_parts, ltb-true, get_or_append_left, get_or-append_right, same_tests, left_either, right_either, or-false, or_assoc}
+use Rattle.base_lists.proofs.Common.{◌≡◌, ℕ, suc, ◌+◌, ◌-◌, ◌*◌, ◌<◌, ◌≤◌, List, [], ◌∷◌, ◌++◌, length, Bool, true, ◌&&◌, ◌||◌, nat_lt, slice_index, refl, sym, ap, ap₂, ◌∙◌, inl, inr, arith, add-zero, cases_lt, and_parts, ltb-true, get_or_append_left, get_or-append_right, same_tests, left_either}
+use Rattle.base_lists.proofs.Common.{right_either, or-false, or_assoc}
 use Rattle.std.proofs.Common.{length-append, take-append-drop}
 use Rattle.std.proofs.Math.Bool.{or_comm}
 use Rattle.std.proofs.lemmas.Bool.{or_cases}

@@ -1,5 +1,6 @@
 -- The blocks that a pool keeps, where one is taken, given back or written.
-use Rattle.base_lists.proofs.Common.{◌≡◌, ◌≢◌, ℕ, zero, suc, ◌+◌, ◌-◌, ◌<◌, List, [], ◌∷◌, ◌++◌, length, Bool, true, false, Option, Some, None, is_some, cond, count_by, slice_index, slice_index_or, slice_set, refl, sym, ap, ◌∙◌, inl, inr, arith, cases_lt, cases_eq, get_or_past, get_or-set_same, get_or-set_other, get_or_append_left, none-some, is_some_there}
+use Rattle.base_lists.proofs.Common.{◌≡◌, ◌≢◌, ℕ, zero, suc, ◌+◌, ◌-◌, ◌<◌, List, [], ◌∷◌, ◌++◌, length, Bool, true, false, Option, Some, None, is_some, cond, count_by, slice_index, slice_index_or, slice_set, refl, sym, ap, ◌∙◌, inl, inr, arith, cases_lt, cases_eq, get_or_past, get_or-set_same}
+use Rattle.base_lists.proofs.Common.{get_or-set_other, get_or_append_left, none-some, is_some_there}
 use Rattle.std.proofs.Common.{length-set, length-append}
 use Rattle.std.proofs.lemmas.List.{get_or_push}
 use Rattle.std.proofs.lemmas.List.Sums.{sum_by_push}

@@ -1,5 +1,6 @@
 -- What the memory tells of its table.
-use Rattle.base_lists.proofs.Common.{◌≡◌, ℕ, zero, suc, ◌+◌, ◌*◌, ◌/◌, ◌^◌, ◌<◌, ◌≤◌, [], ◌∷◌, length, map, Bool, true, false, Some, None, replicate, count_by, refl, sym, ap, subst, ◌∙◌, inl, inr, arith, IsNone, IsSome, vec_capacity, if◌then◌else◌, Contains, cases_lt, ext_get_or, get_or-replicate, get_or_past, length-replicate, length-map, map_numbers_index, length-numbers}
+use Rattle.base_lists.proofs.Common.{◌≡◌, ℕ, zero, suc, ◌+◌, ◌*◌, ◌/◌, ◌^◌, ◌<◌, ◌≤◌, [], ◌∷◌, length, map, Bool, true, false, Some, None, replicate, count_by, refl, sym, ap, subst, ◌∙◌, inl, inr, arith, IsNone, IsSome, vec_capacity, if◌then◌else◌, Contains, cases_lt, ext_get_or, get_or-replicate}
+use Rattle.base_lists.proofs.Common.{get_or_past, length-replicate, length-map, map_numbers_index, length-numbers}
 use Rattle.base_lists.specs.Places.{numbers}
 use Rattle.block_pool.specs.Blocks.{used}
 use Rattle.block_pool.specs.Pages.{Pages, blank, blocks_of, size}

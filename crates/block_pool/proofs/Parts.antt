@@ -27,7 +27,8 @@ module _ (xs : List ℕ) (at : ℕ) (ys : List ℕ) (fits : at + length ys ≤ l
       ∙ ap (slice_index xs) (let e : at + length ys + (i - at - length ys) ≡ i = omega arith in e)))
 
   -- what agrees with it at each place is it
-  pub is_part : (zs : List ℕ) → length zs ≡ length xs → ((i : ℕ) → i < at → slice_index zs i ≡ slice_index xs i) → ((i : ℕ) → at ≤ i → i < at + length ys → slice_index zs i ≡ slice_index ys (i - at)) → ((i : ℕ) → at + length ys ≤ i → i < length xs → slice_index zs i ≡ slice_index xs i) → zs ≡ with_part xs at ys
+  pub is_part : (zs : List ℕ) → length zs ≡ length xs → ((i : ℕ) → i < at → slice_index zs i ≡ slice_index xs i) → ((i : ℕ) → at ≤ i → i < at + length ys → slice_index zs i ≡ slice_index ys (i - at)) → ((i : ℕ) → at + length ys ≤ i → i < length xs → slice_index zs i ≡ slice_index xs i) →
+      zs ≡ with_part xs at ys
   is_part zs same below inside above =
       ext_get_or 0 zs (with_part xs at ys) (same ∙ sym part_length) (λ i h.
       elim (cases_lt i at) [

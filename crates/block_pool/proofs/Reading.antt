@@ -1,5 +1,6 @@
 -- What is read of a block is what the memory has there.
-use Rattle.base_lists.proofs.Common.{◌≡◌, ℕ, ◌+◌, ◌-◌, ◌*◌, ◌/◌, ◌%◌, ◌<◌, ◌≤◌, List, ◌++◌, length, drop, Some, None, slice_index, replicate, refl, sym, ap, ◌∙◌, inl, inr, arith, zero-add, cases_lt, get_or-take, get_or-drop, get_or_append_left, get_or-append_right, ext_get_or, get_or-replicate, length-replicate, map_numbers_index}
+use Rattle.base_lists.proofs.Common.{◌≡◌, ℕ, ◌+◌, ◌-◌, ◌*◌, ◌/◌, ◌%◌, ◌<◌, ◌≤◌, List, ◌++◌, length, drop, Some, None, slice_index, replicate, refl, sym, ap, ◌∙◌, inl, inr, arith, zero-add, cases_lt, get_or-take, get_or-drop, get_or_append_left, get_or-append_right, ext_get_or, get_or-replicate}
+use Rattle.base_lists.proofs.Common.{length-replicate, map_numbers_index}
 use Rattle.std.proofs.Common.{length-append, length-drop, length-take-le}
 use Rattle.block_pool.specs.Blocks.{held}
 use Rattle.block_pool.specs.Pages.{part}

@@ -97,6 +97,7 @@ module _ (pool after : Blocks) (slots : List Slot) (k : ℕ) (s : Slot) (owns : 
         | inr n ↦ other_bytes which named (at / 4096) (at % 4096) n
       ])
 
-  pub contents_after : (which : Slot → Option ℕ) (size : ℕ) → ((x : Slot) (b : ℕ) → which x ≡ Some b → NamesBlock x b) → ((offset : ℕ) → offset < 4096 → byte_in after (which s) offset ≡ byte_in pool (which (slot_at slots k)) offset) → is_some (which s) ≡ is_some (which (slot_at slots k)) → contents after (slice_set slots k s) which size ≡ contents pool slots which size
+  pub contents_after : (which : Slot → Option ℕ) (size : ℕ) → ((x : Slot) (b : ℕ) → which x ≡ Some b → NamesBlock x b) → ((offset : ℕ) → offset < 4096 → byte_in after (which s) offset ≡ byte_in pool (which (slot_at slots k)) offset) → is_some (which s) ≡ is_some (which (slot_at slots k)) →
+      contents after (slice_set slots k s) which size ≡ contents pool slots which size
   contents_after which size named same as_there =
       same_contents (ap (λ f. map f (numbers 0 size)) (bytes_after which named same)) (map-set_same (λ x. is_some (which x)) slots k s Absent as_there)

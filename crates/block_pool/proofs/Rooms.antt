@@ -85,7 +85,8 @@ puts_on start t u at place ys zs p e inside sound fixed w = record {
 }
 
 -- and there is room for more of them
-pub puts_room : (start t : Table) (at n place m : ℕ) (a : ℕ) (ys : List ℕ) → IsSound t → WritesBytes (pages_of start) (pages_of t) a ys → HasRoomFor (pages_of start) at n → at ≤ a → a + length ys ≤ at + n → at ≤ place → place + m ≤ at + n → 0 < m → at + n ≤ t.size → slot_at t.slots.items (place / 4096) ≡ Absent → t.written < t.most
+pub puts_room : (start t : Table) (at n place m : ℕ) (a : ℕ) (ys : List ℕ) → IsSound t → WritesBytes (pages_of start) (pages_of t) a ys → HasRoomFor (pages_of start) at n → at ≤ a → a + length ys ≤ at + n → at ≤ place → place + m ≤ at + n → 0 < m → at + n ≤ t.size →
+    slot_at t.slots.items (place / 4096) ≡ Absent → t.written < t.most
 puts_room start t at n place m a ys sound w fits f g h i some small absent =
     room_for t at n (place / 4096) sound (fits_still (pages_of start) (pages_of t) at n a ys w f g fits) (rw sound.slots (omega arith)) absent
     (reaches_yes at n (place / 4096) (omega arith) (omega arith) (omega arith))

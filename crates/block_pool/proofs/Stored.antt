@@ -19,7 +19,8 @@ little_bytes_size zero v = refl
 little_bytes_size (suc n) v = ap suc (little_bytes_size n (v / 256))
 
 -- a block is made one that may be written to, and then written
-pub written_at : (t u : Table) (pool : Blocks) (at b : ℕ) (new : List ℕ) → IsSound u → Claims t u (at / 4096) → IsFixed t u → present (slot_at u.slots.items (at / 4096)) ≡ Some b → (u.marked ≡ true → is_changed (slot_at u.slots.items (at / 4096)) ≡ true) → WritesPart u.pool pool b (at % 4096) new → 0 < length new → at % 4096 + length new ≤ 4096 → at + length new ≤ u.size → IsSound (record u { pool = pool }) × WritesBytes (pages_of t) (pages_of (record u { pool = pool })) at new
+pub written_at : (t u : Table) (pool : Blocks) (at b : ℕ) (new : List ℕ) → IsSound u → Claims t u (at / 4096) → IsFixed t u → present (slot_at u.slots.items (at / 4096)) ≡ Some b → (u.marked ≡ true → is_changed (slot_at u.slots.items (at / 4096)) ≡ true) → WritesPart u.pool pool b (at % 4096) new →
+    0 < length new → at % 4096 + length new ≤ 4096 → at + length new ≤ u.size → IsSound (record u { pool = pool }) × WritesBytes (pages_of t) (pages_of (record u { pool = pool })) at new
 written_at t u pool at b new sound claims fixed named private w some within small =
     let place : 4096 * (at / 4096) + at % 4096 ≡ at = omega arith in
     let inside : at / 4096 < length u.slots.items = rw sound.slots (omega arith) in
@@ -27,6 +28,7 @@ written_at t u pool at b new sound claims fixed named private w some within smal
     (both.0, subst (λ (a : ℕ). WritesBytes (pages_of t) (pages_of (record u { pool = pool })) a new) place both.1)
 
 -- it may be written to as it is
-pub written_ready : (t : Table) (pool : Blocks) (at b : ℕ) (new : List ℕ) → IsSound t → present (slot_at t.slots.items (at / 4096)) ≡ Some b → (t.marked ≡ true → is_changed (slot_at t.slots.items (at / 4096)) ≡ true) → WritesPart t.pool pool b (at % 4096) new → 0 < length new → at % 4096 + length new ≤ 4096 → at + length new ≤ t.size → IsSound (record t { pool = pool }) × WritesBytes (pages_of t) (pages_of (record t { pool = pool })) at new
+pub written_ready : (t : Table) (pool : Blocks) (at b : ℕ) (new : List ℕ) → IsSound t → present (slot_at t.slots.items (at / 4096)) ≡ Some b → (t.marked ≡ true → is_changed (slot_at t.slots.items (at / 4096)) ≡ true) → WritesPart t.pool pool b (at % 4096) new → 0 < length new →
+    at % 4096 + length new ≤ 4096 → at + length new ≤ t.size → IsSound (record t { pool = pool }) × WritesBytes (pages_of t) (pages_of (record t { pool = pool })) at new
 written_ready t pool at b new sound named private w some within small =
     written_at t t pool at b new sound (claimed_already t (at / 4096) (slot_at t.slots.items (at / 4096)) refl (ap is_some named)) (fixed_self t) named private w some within small

@@ -1,5 +1,6 @@
 -- A block that was written since the mark is taken back, or kept for good.
-use Rattle.base_lists.proofs.Common.{◌≡◌, ◌≢◌, ◌⊎◌, ℕ, ◌+◌, ◌<◌, ◌≤◌, List, [], ◌∷◌, ◌++◌, length, Bool, true, false, Some, None, is_some, slice_set, slice_index, count_by, refl, sym, ap, ◌∙◌, inl, inr, arith, true≢false, vec_capacity, length_push, Contains-push, Contains-push_cases, Contains-append_left}
+use Rattle.base_lists.proofs.Common.{◌≡◌, ◌≢◌, ◌⊎◌, ℕ, ◌+◌, ◌<◌, ◌≤◌, List, [], ◌∷◌, ◌++◌, length, Bool, true, false, Some, None, is_some, slice_set, slice_index, count_by, refl, sym, ap, ◌∙◌, inl, inr, arith, true≢false, vec_capacity, length_push, Contains-push, Contains-push_cases}
+use Rattle.base_lists.proofs.Common.{Contains-append_left}
 use Rattle.std.specs.Prelude.{unwrap_or}
 use Rattle.block_pool.specs.Blocks.{Blocks, IsLive, used, Changes}
 use Rattle.block_pool.specs.Table.{present, before, older, is_present, has_older, is_changed, slot_at, byte_in, NamesBlock, Owns, IsSound, TakesBack, Settles}
@@ -11,7 +12,8 @@ use Rattle.block_pool.proofs.Replaced.{Replaces, contents_after}
 use Rattle.block_pool.proofs.Moved.{Moves, sound_after}
 use Rattle.block_pool.proofs.Claimed.{mark_after, present_named}
 
-given_replaces : (pool after : Blocks) (slots : List Slot) (k : ℕ) (s : Slot) (p : ℕ) → Owns pool slots → k < length slots → NamesBlock (slot_at slots k) p → Changes pool after p None → ((c : ℕ) → NamesBlock s c → NamesBlock (slot_at slots k) c × (c ≢ p)) → ((c : ℕ) → present s ≡ Some c → older s ≡ Some c → ⊥) → Replaces pool after slots k s
+given_replaces : (pool after : Blocks) (slots : List Slot) (k : ℕ) (s : Slot) (p : ℕ) → Owns pool slots → k < length slots → NamesBlock (slot_at slots k) p → Changes pool after p None → ((c : ℕ) → NamesBlock s c → NamesBlock (slot_at slots k) c × (c ≢ p)) →
+    ((c : ℕ) → present s ≡ Some c → older s ≡ Some c → ⊥) → Replaces pool after slots k s
 given_replaces pool after slots k s p owns inside named changes still apart = record {
   inside = inside;
   fresh = λ c n. inl (still c n).0;
@@ -59,7 +61,8 @@ module _ (t u : Table) (k : ℕ) (s : Slot) (sound : IsSound t) (r : Replaces t.
   length_before : length t.changed.items ≡ length u.changed.items + 1
   length_before = ap length d.listed ∙ length_push u.changed.items k
 
-  undone_moves : u.pool.numbers ≡ t.pool.numbers → u.written + flag (is_present (slot_at t.slots.items k)) ≡ t.written + flag (is_present s) → used u.pool + (flag (is_present (slot_at t.slots.items k)) + flag (has_older (slot_at t.slots.items k))) ≡ used t.pool + (flag (is_present s) + flag (has_older s)) → used u.pool + u.pool.spare ≡ used t.pool + t.pool.spare → u.written ≤ t.written → Moves t u k s
+  undone_moves : u.pool.numbers ≡ t.pool.numbers → u.written + flag (is_present (slot_at t.slots.items k)) ≡ t.written + flag (is_present s) →
+      used u.pool + (flag (is_present (slot_at t.slots.items k)) + flag (has_older (slot_at t.slots.items k))) ≡ used t.pool + (flag (is_present s) + flag (has_older s)) → used u.pool + u.pool.spare ≡ used t.pool + t.pool.spare → u.written ≤ t.written → Moves t u k s
   undone_moves numbers written account blocks fewer = record {
     replaces = r;
     slots = d.slots;

@@ -29,7 +29,8 @@ size_is t = length-map (numbers 0 t.size) (byte_at t.pool t.slots.items present)
 abbrev pub with_block : Table → (b : ℕ) → (old : List ℕ) → (offset : ℕ) → List ℕ → Table
 with_block t b old offset new = record t { pool = with_bytes t.pool b (with_part old offset new) }
 
-module _ (t : Table) (k b offset : ℕ) (new old : List ℕ) (sound : IsSound t) (inside : k < length t.slots.items) (named : present (slot_at t.slots.items k) ≡ Some b) (private : t.marked ≡ true → is_changed (slot_at t.slots.items k) ≡ true) (bytes : held t.pool b ≡ Some old) (whole : length old ≡ 4096) (fits : offset + length new ≤ 4096) where
+module _ (t : Table) (k b offset : ℕ) (new old : List ℕ) (sound : IsSound t) (inside : k < length t.slots.items) (named : present (slot_at t.slots.items k) ≡ Some b) (private : t.marked ≡ true → is_changed (slot_at t.slots.items k) ≡ true) (bytes : held t.pool b ≡ Some old)
+    (whole : length old ≡ 4096) (fits : offset + length new ≤ 4096) where
   abbrev pool : Blocks
   pool = with_bytes t.pool b (with_part old offset new)
 
@@ -139,7 +140,8 @@ module _ (t : Table) (k b offset : ℕ) (new old : List ℕ) (sound : IsSound t)
       at_place g i small ∙ (outside i (λ e. part_above old offset new fits_old (i % 4096) (omega arith)) ∙ sym (at_place f i small)))
 
 -- a block is made one that may be written to, and then written
-pub block_written : (t u : Table) (pool : Blocks) (k b offset : ℕ) (new : List ℕ) → IsSound u → Claims t u k → IsFixed t u → k < length u.slots.items → present (slot_at u.slots.items k) ≡ Some b → (u.marked ≡ true → is_changed (slot_at u.slots.items k) ≡ true) → WritesPart u.pool pool b offset new → 0 < length new → offset + length new ≤ 4096 → 4096 * k + offset + length new ≤ u.size → IsSound (record u { pool = pool }) × WritesBytes (pages_of t) (pages_of (record u { pool = pool })) (4096 * k + offset) new
+pub block_written : (t u : Table) (pool : Blocks) (k b offset : ℕ) (new : List ℕ) → IsSound u → Claims t u k → IsFixed t u → k < length u.slots.items → present (slot_at u.slots.items k) ≡ Some b → (u.marked ≡ true → is_changed (slot_at u.slots.items k) ≡ true) → WritesPart u.pool pool b offset new →
+    0 < length new → offset + length new ≤ 4096 → 4096 * k + offset + length new ≤ u.size → IsSound (record u { pool = pool }) × WritesBytes (pages_of t) (pages_of (record u { pool = pool })) (4096 * k + offset) new
 block_written t u pool k b offset new sound claims fixed inside named private w some within small =
     rw w.after (
       block_sound u k b offset new w.before sound inside named private w.there w.whole within,

@@ -1,5 +1,6 @@
 -- What contracts see of a memory that can take back what was written to it.
-use Rattle.std.specs.Prelude.{◌≡◌, ◌≢◌, ◌⊎◌, ℕ, zero, suc, ◌+◌, ◌*◌, ◌/◌, ◌%◌, ◌<◌, ◌≤◌, List, [], ◌∷◌, length, take, drop, Bool, false, ◌&&◌, ◌||◌, nat_lt, Option, Some, None, count_by, slice_index, replicate}
+use Rattle.std.specs.Prelude.{◌≡◌, ◌≢◌, ◌⊎◌, ℕ, zero, suc, ◌+◌, ◌*◌, ◌/◌, ◌%◌, ◌<◌, ◌≤◌, List, [], ◌∷◌, length, take, drop, Bool, false, ◌&&◌, ◌||◌, nat_lt, Option, Some, None, count_by, slice_index}
+use Rattle.std.specs.Prelude.{replicate}
 use Rattle.block_pool.specs.Blocks.{with_part}
 
 -- The bytes of a memory, and for each block of 4,096 bytes whether it was written.

@@ -1,5 +1,6 @@
 -- What the table of blocks and the pool represent together.
-use Rattle.std.specs.Prelude.{◌≡◌, ◌⊎◌, ℕ, ◌+◌, ◌*◌, ◌/◌, ◌%◌, ◌^◌, ◌≤◌, List, [], length, ◌<◌, map, Bool, true, false, Option, Some, None, is_some, unwrap_or, count_by, slice_index, slice_index_or, slice_set, Contains, vec_capacity, if◌then◌else◌}
+use Rattle.std.specs.Prelude.{◌≡◌, ◌⊎◌, ℕ, ◌+◌, ◌*◌, ◌/◌, ◌%◌, ◌^◌, ◌≤◌, List, [], length, ◌<◌, map, Bool, true, false, Option, Some, None, is_some, unwrap_or, count_by, slice_index, slice_index_or}
+use Rattle.std.specs.Prelude.{slice_set, Contains, vec_capacity, if◌then◌else◌}
 use Rattle.base_lists.specs.Places.{numbers}
 use Rattle.block_pool.specs.Blocks.{Blocks, held, IsLive, used}
 use Rattle.block_pool.specs.Pages.{Contents, Pages, blocks_of}

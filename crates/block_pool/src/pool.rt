@@ -43,7 +43,8 @@ impl Model for Pool {
       numbers = p.room;
     } };
 
-    ghost invariant = { λ p. (FreeBlocksAreListed p.live.items p.blocks.items p.free.items) × ((length p.blocks.items ≤ p.room) × ((p.room ≤ vec_capacity p.blocks) × ((p.room ≤ vec_capacity p.live) × (p.room ≤ vec_capacity p.free)))) };
+    ghost invariant = { λ p. (FreeBlocksAreListed p.live.items p.blocks.items p.free.items) ×
+        ((length p.blocks.items ≤ p.room) × ((p.room ≤ vec_capacity p.blocks) × ((p.room ≤ vec_capacity p.live) × (p.room ≤ vec_capacity p.free)))) };
 }
 
 impl Pool {

@@ -1,5 +1,6 @@
 -- An environment that links a module links what is left of it.
-use Rattle.base_lists.proofs.Common.{◌≡◌, ◌∙◌, ap, ap₂, sym, subst, refl, ℕ, zero, suc, ◌+◌, ◌<◌, ◌⊎◌, inl, inr, List, [], ◌∷◌, ◌++◌, map, length, Some, true, false, arith, option_and_then, slice_get, unwrap_or, length-append, length-map, slice_get_within, and_then_is, is_some_there, all_there_at, all_there_from, all_there_length, length-numbers, append_from, map_at, map_from, slice_get_there, list_all_each, places_many, all_rel, right_there, then_eq, then_rel}
+use Rattle.base_lists.proofs.Common.{◌≡◌, ◌∙◌, ap, ap₂, sym, subst, refl, ℕ, zero, suc, ◌+◌, ◌<◌, ◌⊎◌, inl, inr, List, [], ◌∷◌, ◌++◌, map, length, Some, true, false, arith, option_and_then, slice_get, unwrap_or, length-append, length-map, slice_get_within, and_then_is, is_some_there, all_there_at}
+use Rattle.base_lists.proofs.Common.{all_there_from, all_there_length, length-numbers, append_from, map_at, map_from, slice_get_there, list_all_each, places_many, all_rel, right_there, then_eq, then_rel}
 use Rattle.wasm_tree_spec.specs.Prelude.{Functions, ConstExpr, ElemMode, ElemSeg, GlobalDef, Import, ImportDesc, Module, imported_funcs, funcs_of}
 use Rattle.wasm_tree.specs.declared.module.Func as tree
 use Rattle.wasm_tree.specs.declared.module.ImportDesc.TheVariants as im
@@ -39,7 +40,8 @@ pub record Laws : Type 0 where
   pub made : WhatIsInstantiated
   pub equal_traces : CorrespondingWorldsHaveEqualTraces
 
-module _ (laws : Laws) (k : Marks) (t : Module) (c : AreClosed k t) (env : Environment) (imports : (swept k t).imports ≡ kept k.imports t.imports) (i j : Inst) (a : IsInst env (one t) 0 t i) (b : IsInst env (one (swept k t)) 0 (swept k t) j) (named : TreeNamesOnly (kept_indices k t) (kept_tree k t)) (code : RenumberedCodeIsRelated) where
+module _ (laws : Laws) (k : Marks) (t : Module) (c : AreClosed k t) (env : Environment) (imports : (swept k t).imports ≡ kept k.imports t.imports) (i j : Inst) (a : IsInst env (one t) 0 t i) (b : IsInst env (one (swept k t)) 0 (swept k t) j)
+    (named : TreeNamesOnly (kept_indices k t) (kept_tree k t)) (code : RenumberedCodeIsRelated) where
   abbrev r : Remap
   r = sweep_map k t
 
@@ -95,7 +97,8 @@ module _ (laws : Laws) (k : Marks) (t : Module) (c : AreClosed k t) (env : Envir
             let d = map_from (new_const r) (kept_items k e.mode e.items) n y g in
             let p = laws.items k e.mode e.items n d.0 d.1 in
             let s = all_there_at (world.ref_value env (one t) (i ∷ []) 0) e.items items.0 items.1 p.0 d.0 p.1 in
-            right_there (subst (λ c. OptRel (RefRel Q) (world.ref_value env (one t) (i ∷ []) 0 d.0) (world.ref_value env (one u) (j ∷ []) 0 c)) d.2 (then_rel (consts k t c env imports laws.constants i j a b d.0 (named.items x n (kept_elem k e) d.0 (map_at (kept_elem k) t.elems x e h) d.1)) (λ _ _ q. ref_rel Q q))) s.1
+            right_there (subst (λ c. OptRel (RefRel Q) (world.ref_value env (one t) (i ∷ []) 0 d.0) (world.ref_value env (one u) (j ∷ []) 0 c)) d.2
+                (then_rel (consts k t c env imports laws.constants i j a b d.0 (named.items x n (kept_elem k e) d.0 (map_at (kept_elem k) t.elems x e h) d.1)) (λ _ _ q. ref_rel Q q))) s.1
 
     func_space : length j.funcs ≡ length (funcs_of u)
     func_space =

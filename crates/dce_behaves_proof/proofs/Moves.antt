@@ -1,5 +1,6 @@
 -- Where addresses go when some of what a module defines is left out, and what index spaces name then.
-use Rattle.base_lists.proofs.Common.{◌≡◌, ◌∙◌, ap, sym, refl, ℕ, ◌+◌, ◌-◌, ◌<◌, ◌≤◌, ◌&&◌, ◌⊎◌, inl, inr, List, ◌++◌, length, drop, Bool, true, false, cond, nat_eq, nat_lt, arith, slice_get, cases_lt, eq-eqb, eqb-true, ltb-true, nat_tests, left_true, right_true, numbers_at, append_at_left, append_left, append_right, slice_get_there, get_rel, opt_at, opt_self}
+use Rattle.base_lists.proofs.Common.{◌≡◌, ◌∙◌, ap, sym, refl, ℕ, ◌+◌, ◌-◌, ◌<◌, ◌≤◌, ◌&&◌, ◌⊎◌, inl, inr, List, ◌++◌, length, drop, Bool, true, false, cond, nat_eq, nat_lt, arith, slice_get, cases_lt, eq-eqb, eqb-true, ltb-true, nat_tests, left_true, right_true, numbers_at, append_at_left}
+use Rattle.base_lists.proofs.Common.{append_left, append_right, slice_get_there, get_rel, opt_at, opt_self}
 use Rattle.base_lists.specs.Places.{numbers}
 use Rattle.index_remap.specs.Prelude.{OptRel, some, ListRel}
 use Rattle.base_kept.specs.Kept.{kept, is_marked, kept_before}

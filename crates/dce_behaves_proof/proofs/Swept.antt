@@ -1,5 +1,6 @@
 -- A module and what is left of it by closed marks: its records of the law for two worlds.
-use Rattle.base_lists.proofs.Common.{◌≡◌, ◌∙◌, ap, ap₂, sym, subst, refl, ℕ, suc, ◌+◌, ◌<◌, ◌≤◌, ◌&&◌, List, [], ◌∷◌, ◌++◌, map, length, drop, replicate, Option, Some, None, Bool, true, arith, option_and_then, append-nil, slice_get, slice_index, IsTrue, ltb-true, length-append, length-map, length-replicate, length-drop, map-id, slice_get_within, same_Some, left_true, right_true, length-numbers, numbers_at, numbers_index, places_many, append_at_left, map_at, map_twice, slice_get_there, append_rel, get_rel, opt_at, then_rel}
+use Rattle.base_lists.proofs.Common.{◌≡◌, ◌∙◌, ap, ap₂, sym, subst, refl, ℕ, suc, ◌+◌, ◌<◌, ◌≤◌, ◌&&◌, List, [], ◌∷◌, ◌++◌, map, length, drop, replicate, Option, Some, None, Bool, true, arith, option_and_then, append-nil, slice_get, slice_index, IsTrue, ltb-true, length-append, length-map}
+use Rattle.base_lists.proofs.Common.{length-replicate, length-drop, map-id, slice_get_within, same_Some, left_true, right_true, length-numbers, numbers_at, numbers_index, places_many, append_at_left, map_at, map_twice, slice_get_there, append_rel, get_rel, opt_at, then_rel}
 use Rattle.base_lists.specs.Places.{numbers}
 use Rattle.wasm_tree_spec.specs.Prelude.{Space, Types, Functions, Tables, Memories, Globals, ElementSegments, DataSegments, ConstExpr, ElemMode, ElemSeg, Export, GlobalDef, Module, imported_funcs, imported_tables, imported_memories, imported_globals}
 use Rattle.wasm_tree.specs.declared.module.ConstExpr.TheVariants as const
@@ -323,7 +324,8 @@ module _ (k : Marks) (t : Module) (c : AreClosed k t) where
                   let d = slice_get_there (definitions t) x (omega (arith, l, size, many, counted)) in
                   let moved = kept_at (own_marks k t space) (definitions t) x d.0 m d.1 in
                   partners.defined (record { part = 0; of = t; is_part = refl; inst = i; is_inst = refl; place = x; definition = d.0; stands = d.1; address = omega (arith, e) })
-                  (record { part = 0; of = u; is_part = refl; inst = j; is_inst = refl; place = kept_before (own_marks k t space) x; definition = new d.0; stands = ap (λ xs. slice_get xs (kept_before (own_marks k t space) x)) are ∙ append_at_left (map new (kept (own_marks k t space) (definitions t))) more (kept_before (own_marks k t space) x) (new d.0) (map_at new (kept (own_marks k t space) (definitions t)) (kept_before (own_marks k t space) x) d.0 moved); address = omega (arith, f) })
+                  (record { part = 0; of = u; is_part = refl; inst = j; is_inst = refl; place = kept_before (own_marks k t space) x; definition = new d.0; stands = ap (λ xs. slice_get xs (kept_before (own_marks k t space) x)) are ∙
+                      append_at_left (map new (kept (own_marks k t space) (definitions t))) more (kept_before (own_marks k t space) x) (new d.0) (map_at new (kept (own_marks k t space) (definitions t)) (kept_before (own_marks k t space) x) d.0 moved); address = omega (arith, f) })
                   (each x d.0 d.1 m)
 
           -- where a definition that is kept stands in what is kept

@@ -1,5 +1,6 @@
 -- Edges and roots that are imports.
-use Rattle.base_lists.proofs.Common.{◌≡◌, ◌∙◌, sym, ap, refl, subst, ℕ, zero, suc, ◌+◌, List, [], ◌∷◌, ◌++◌, map, Bool, true, Option, Some, None, slice_get, ◌⊎◌, inl, inr, ⊎_elim, arith, ◌↔◌, Contains, option_map, cons_option, filter_map, flat_map, Contains-append_left, Contains-append_right, Contains-append_cases, slice_get_within, every_at, place_back, place_there, map_at, map_from, append_at_left, append_from}
+use Rattle.base_lists.proofs.Common.{◌≡◌, ◌∙◌, sym, ap, refl, subst, ℕ, zero, suc, ◌+◌, List, [], ◌∷◌, ◌++◌, map, Bool, true, Option, Some, None, slice_get, ◌⊎◌, inl, inr, ⊎_elim, arith, ◌↔◌, Contains, option_map, cons_option, filter_map, flat_map, Contains-append_left, Contains-append_right}
+use Rattle.base_lists.proofs.Common.{Contains-append_cases, slice_get_within, every_at, place_back, place_there, map_at, map_from, append_at_left, append_from}
 use Rattle.base_lists.proofs.Filtered.{places_apart}
 use Rattle.base_lists.specs.Every.{Every}
 use Rattle.base_lists.specs.Places.{places}
@@ -15,7 +16,8 @@ use Rattle.wasm_tree.specs.declared.module.ImportDesc.TheVariants as im
 use Rattle.dce_graph.specs.declared.graph.Graph.{Graph}
 use Rattle.dce_graph.specs.declared.point.Point.{Point}
 use Rattle.dce_graph.specs.declared.point.Point.TheVariants.{Node, Export, Import, Func, Global}
-use Rattle.dce_graph.specs.Prelude.{Text, IsReached, root, along, roots, edges, operand_point, body_points, body_operands, const_point, const_points, imports_into, export_place, export_of_node, from_node, from_import, stays_imported, denotes_import, elem_points, data_points, root_nodes, start_points, import_points}
+use Rattle.dce_graph.specs.Prelude.{Text, IsReached, root, along, roots, edges, operand_point, body_points, body_operands, const_point, const_points, imports_into, export_place, export_of_node, from_node, from_import, stays_imported, denotes_import, elem_points, data_points, root_nodes}
+use Rattle.dce_graph.specs.Prelude.{start_points, import_points}
 use Rattle.dce_graph.specs.Reach.{point_of, from_export, from_funcs, from_globals, edges_of}
 use Rattle.dce_graph.proofs.Marking.{nowhere, alone, only_one}
 

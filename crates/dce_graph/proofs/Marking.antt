@@ -1,5 +1,6 @@
 -- One mark more, and points that are met one after another.
-use Rattle.base_lists.proofs.Common.{◌≡◌, ℕ, zero, suc, ◌<◌, List, [], ◌∷◌, ◌++◌, length, Bool, true, false, get_or, slice_get, slice_set, ◌⊎◌, inl, inr, ⊎_elim, refl, sym, ap, ◌∙◌, subst, arith, Contains, Contains-push, Contains-append_left, Contains-append_right, Contains-push_cases, Contains-append_cases}
+use Rattle.base_lists.proofs.Common.{◌≡◌, ℕ, zero, suc, ◌<◌, List, [], ◌∷◌, ◌++◌, length, Bool, true, false, get_or, slice_get, slice_set, ◌⊎◌, inl, inr, ⊎_elim, refl, sym, ap, ◌∙◌, subst, arith, Contains, Contains-push, Contains-append_left, Contains-append_right, Contains-push_cases}
+use Rattle.base_lists.proofs.Common.{Contains-append_cases}
 use Rattle.dce_graph.specs.declared.point.Point.{Point}
 use Rattle.dce_graph.specs.declared.point.Point.TheVariants.{Node, Export, Import, Func, Global}
 use Rattle.dce_graph.specs.declared.marks.Reached.{Reached}

@@ -1,5 +1,7 @@
 -- The nodes that denote one module and field, met from the last to the first.
-use Rattle.base_lists.proofs.Common.{◌≡◌, ◌∙◌, sym, ap, refl, ℕ, zero, suc, ◌+◌, ◌<◌, ◌≤◌, List, [], ◌∷◌, ◌++◌, map, take, drop, length, Bool, true, false, cond, Option, Some, None, slice_get, subst, ap₂, ◌&&◌, inl, inr, ⊎_elim, arith, Contains, option_and_then, option_or, nat_cmp, ordering_then, slice_cmp, cases_eq, is_eq-slice_cmp, slice_get_within, push_last, push_before, append_at_left, bytes_eq, and_parts, length-append, length-take-le, take_all, drop_all, take-append-le, Contains-push, Contains-append_left, Contains-append_right, Contains-push_cases, Contains-append_cases, bytes_eq-Decides}
+use Rattle.base_lists.proofs.Common.{◌≡◌, ◌∙◌, sym, ap, refl, ℕ, zero, suc, ◌+◌, ◌<◌, ◌≤◌, List, [], ◌∷◌, ◌++◌, map, take, drop, length, Bool, true, false, cond, Option, Some, None, slice_get, subst, ap₂, ◌&&◌, inl, inr, ⊎_elim, arith, Contains, option_and_then, option_or, nat_cmp, ordering_then}
+use Rattle.base_lists.proofs.Common.{slice_cmp, cases_eq, is_eq-slice_cmp, slice_get_within, push_last, push_before, append_at_left, bytes_eq, and_parts, length-append, length-take-le, take_all, drop_all, take-append-le, Contains-push, Contains-append_left, Contains-append_right}
+use Rattle.base_lists.proofs.Common.{Contains-push_cases, Contains-append_cases, bytes_eq-Decides}
 use Rattle.base_lists.proofs.Bools.{both_equal}
 use Rattle.std.specs.BTreeMap.{BTreeMap}
 use Rattle.std.specs.Ordering.{is_eq}

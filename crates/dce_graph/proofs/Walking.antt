@@ -1,5 +1,6 @@
 -- Points that a loop has met, one item further.
-use Rattle.base_lists.proofs.Common.{◌≡◌, ◌∙◌, sym, ap, refl, ℕ, suc, ◌+◌, ◌<◌, List, [], ◌∷◌, ◌++◌, map, take, length, get_or, append_assoc, append-nil, Bool, true, false, cond, Option, Some, None, Result, Ok, Err, arith, OnOk, cons_option, filter_map, flat_map, flat_map-append, map-append, length-take-le, filter_map-append}
+use Rattle.base_lists.proofs.Common.{◌≡◌, ◌∙◌, sym, ap, refl, ℕ, suc, ◌+◌, ◌<◌, List, [], ◌∷◌, ◌++◌, map, take, length, get_or, append_assoc, append-nil, Bool, true, false, cond, Option, Some, None, Result, Ok, Err, arith, OnOk, cons_option, filter_map, flat_map, flat_map-append, map-append}
+use Rattle.base_lists.proofs.Common.{length-take-le, filter_map-append}
 use Rattle.base_lists.specs.Places.{places}
 use Rattle.wasm_tree_spec.specs.Prelude.{BlockType, Instr, out-Instr, map-Instr, fold_out-Instr, outs-Block, outs-Loop, outs-If, Operand, operands_of, held, listed}
 use Rattle.wasm_tree.specs.declared.instr.Instr.{Block, Loop, If}

@@ -4,7 +4,8 @@
 use Rattle.std.specs.Prelude.{ℕ, ◌<◌, Bool, true, false, ◌&&◌, List, [], ◌∷◌, ◌++◌, map, length, Contains, Option, Some, None, option_map, slice_get, bytes_eq}
 use Rattle.std.specs.List.{cons_option, filter_map, flat_map}
 use Rattle.base_lists.specs.Places.{first_place, places}
-use Rattle.wasm_tree_spec.specs.Prelude.{Space, Types, Functions, Tables, Memories, Globals, ElementSegments, DataSegments, Operand, Instr, fold-Instr, ConstExpr, DataMode, ElemMode, ExportDesc, Module, same_space, operands, held, space_of_import, funcs_of, globals_of}
+use Rattle.wasm_tree_spec.specs.Prelude.{Space, Types, Functions, Tables, Memories, Globals, ElementSegments, DataSegments, Operand, Instr, fold-Instr, ConstExpr, DataMode, ElemMode, ExportDesc}
+use Rattle.wasm_tree_spec.specs.Prelude.{Module, same_space, operands, held, space_of_import, funcs_of, globals_of}
 use Rattle.wasm_tree.specs.declared.instr.Instr.TheOpen.{Instr-F}
 use Rattle.wasm_tree.specs.declared.module.ConstExpr.TheVariants as const
 use Rattle.wasm_tree.specs.declared.module.DataMode.TheVariants as «data»

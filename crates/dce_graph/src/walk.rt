@@ -2,7 +2,8 @@
 
 ghost use Rattle.std.specs.Prelude.{◌≡◌, ◌<◌, ◌^◌, [], ◌∷◌, Some, cond, map, length, OnOk, slice_get};
 ghost use Rattle.wasm_tree.specs.Spaces.{space_of_import};
-ghost use Rattle.dce_graph.specs.Reach.{edges, edges_of, export_of_node, from_export, from_funcs, from_globals, from_import, from_node, import_points, root_nodes, roots, denotes_import, start_points, stays_imported};
+ghost use Rattle.dce_graph.specs.Reach.{edges, edges_of, export_of_node, from_export, from_funcs, from_globals, from_import, from_node, import_points, root_nodes, roots, denotes_import, start_points};
+ghost use Rattle.dce_graph.specs.Reach.{stays_imported};
 ghost use Rattle.dce_graph.specs.declared.point.Point.TheVariants.{Node as node_point};
 ghost use Rattle.dce_graph.specs.Marks.{Spread};
 ghost use Rattle.dce_graph.specs.Walks.{AreFollowed, AreLookups, last_place};

@@ -1,9 +1,12 @@
 -- Marks that are exactly on what is reached are closed.
-use Rattle.base_lists.proofs.Common.{◌≡◌, ◌∙◌, ap, ap₂, sym, subst, refl, ℕ, zero, suc, ◌+◌, ◌<◌, List, [], ◌∷◌, map, length, Option, Some, None, Bool, true, false, ◌&&◌, ⊎_elim, nat_lt, arith, slice_get, true≢false, Contains, option_map, cons_option, flat_map, list_all, ltb-true, lt-ltb, length-map, list_all-append, Contains-append_left, Contains-append_right, Contains-append_cases, slice_get_within, same_tests, list_all_each, list_all_from, kept_is, place_back, place_there, places_many, length-numbers, map_at, map_from, append_at_left, append_right, append_from, there_contains}
+use Rattle.base_lists.proofs.Common.{◌≡◌, ◌∙◌, ap, ap₂, sym, subst, refl, ℕ, zero, suc, ◌+◌, ◌<◌, List, [], ◌∷◌, map, length, Option, Some, None, Bool, true, false, ◌&&◌, ⊎_elim, nat_lt, arith, slice_get, true≢false, Contains, option_map, cons_option, flat_map, list_all, ltb-true, lt-ltb}
+use Rattle.base_lists.proofs.Common.{length-map, list_all-append, Contains-append_left, Contains-append_right, Contains-append_cases, slice_get_within, same_tests, list_all_each, list_all_from, kept_is, place_back, place_there, places_many, length-numbers, map_at, map_from, append_at_left}
+use Rattle.base_lists.proofs.Common.{append_right, append_from, there_contains}
 use Rattle.base_lists.proofs.Filtered.{places_apart}
 use Rattle.std.proofs.Common.{filter_map}
 use Rattle.base_lists.specs.Places.{numbers, places}
-use Rattle.wasm_tree_spec.specs.Prelude.{Space, Types, Functions, Tables, Memories, Globals, ElementSegments, DataSegments, Instr, ConstExpr, DataMode, ElemMode, ElemSeg, ExportDesc, GlobalDef, ImportDesc, Module, same_space, PassesInside, PassesLayerByLayer, ListLayers, func_of, global_of, space_of_import, imported_funcs, imported_globals, funcs_of, tables_of, memories_of, globals_of}
+use Rattle.wasm_tree_spec.specs.Prelude.{Space, Types, Functions, Tables, Memories, Globals, ElementSegments, DataSegments, Instr, ConstExpr, DataMode, ElemMode, ElemSeg, ExportDesc, GlobalDef, ImportDesc, Module, same_space, PassesInside, PassesLayerByLayer, ListLayers, func_of, global_of}
+use Rattle.wasm_tree_spec.specs.Prelude.{space_of_import, imported_funcs, imported_globals, funcs_of, tables_of, memories_of, globals_of}
 use Rattle.wasm_tree.specs.declared.module.ConstExpr.TheVariants as const
 use Rattle.wasm_tree.specs.declared.module.DataMode.TheVariants as «data»
 use Rattle.wasm_tree.specs.declared.module.ElemMode.TheVariants as elem
@@ -27,7 +30,8 @@ use Rattle.dce_graph.specs.declared.graph.Node.{Node as GraphNode}
 use Rattle.dce_graph.specs.declared.marks.Reached.{Reached}
 use Rattle.dce_graph.specs.declared.point.Point.{Point}
 use Rattle.dce_graph.specs.declared.point.Point.TheVariants.{Node, Export, Import, Func, Global}
-use Rattle.dce_graph.specs.Prelude.{AreExact, marked, IsReached, root, along, routes, roots, edges, place_in_kind, point_count, body_points, const_point, const_points, imports_into, from_node, from_import, export_of_node, elem_points, data_points, root_nodes, start_points, import_points, stays_imported, denotes_import, export_place}
+use Rattle.dce_graph.specs.Prelude.{AreExact, marked, IsReached, root, along, routes, roots, edges, place_in_kind, point_count, body_points, const_point, const_points, imports_into, from_node, from_import, export_of_node, elem_points, data_points, root_nodes, start_points, import_points}
+use Rattle.dce_graph.specs.Prelude.{stays_imported, denotes_import, export_place}
 use Rattle.dce_graph.specs.Reach.{PointExists, edges_of, point_of, from_export, from_funcs, from_globals, module_roots}
 use Rattle.dce_sweep_spec.specs.Reached.{marks_of}
 use Rattle.dce_reach_proof.proofs.Points.{has, contains_joined, contains_chosen, none_fails, all_mapped, all_joined, all_chosen, point_passes, passes, body_passes}

@@ -1,5 +1,6 @@
 -- What lists of points have in them, and the points that a body names.
-use Rattle.base_lists.proofs.Common.{◌≡◌, ◌∙◌, ap, ap₂, sym, refl, ℕ, zero, suc, List, [], ◌∷◌, ◌++◌, Option, Some, None, Bool, true, ◌&&◌, slice_get, map, Contains, cons_option, flat_map, list_all, list_all-append, Contains-append_left, Contains-append_right, slice_get-get_or, left_true, list_all_each, Has, there_contains}
+use Rattle.base_lists.proofs.Common.{◌≡◌, ◌∙◌, ap, ap₂, sym, refl, ℕ, zero, suc, List, [], ◌∷◌, ◌++◌, Option, Some, None, Bool, true, ◌&&◌, slice_get, map, Contains, cons_option, flat_map, list_all, list_all-append, Contains-append_left, Contains-append_right, slice_get-get_or, left_true}
+use Rattle.base_lists.proofs.Common.{list_all_each, Has, there_contains}
 use Rattle.std.proofs.Common.{filter_map}
 use Rattle.base_lists.specs.Every.{Every}
 use Rattle.wasm_tree_spec.specs.Prelude.{Operand, PassesInside, Instr, out-Instr, fold_out-Instr, operands_of, held, operands_pass, all_operands_pass}

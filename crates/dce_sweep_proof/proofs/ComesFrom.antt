@@ -1,5 +1,6 @@
 -- Each item of what is left of a module comes from one of the module.
-use Rattle.base_lists.proofs.Common.{◌≡◌, ◌∙◌, ap, sym, subst, refl, ℕ, ◌<◌, ◌≤◌, List, map, take, length, Option, Some, None, true, arith, slice_get, slice_index, option_and_then, Contains, ltb-true, length-append, length-map, take-map, slice_get_within, numbers_index, and_then_is, slice_get_there, map_at, map_from, kept_is, left_true, only_true}
+use Rattle.base_lists.proofs.Common.{◌≡◌, ◌∙◌, ap, sym, subst, refl, ℕ, ◌<◌, ◌≤◌, List, map, take, length, Option, Some, None, true, arith, slice_get, slice_index, option_and_then, Contains, ltb-true, length-append, length-map, take-map, slice_get_within, numbers_index, and_then_is, slice_get_there}
+use Rattle.base_lists.proofs.Common.{map_at, map_from, kept_is, left_true, only_true}
 use Rattle.base_lists.specs.Places.{numbers}
 use Rattle.wasm_tree_spec.specs.Prelude.{ValType, FuncType, GlobalType, ConstExpr, DataMode, ElemMode, ElemSeg, Export, ImportDesc, Module, funcs_of, globals_of, tables_of, memories_of, imported_globals, type_of_func}
 use Rattle.wasm_tree.specs.declared.module.ConstExpr.TheVariants as const

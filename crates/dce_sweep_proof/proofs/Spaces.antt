@@ -1,5 +1,6 @@
 -- The index spaces of what is left of a module: what is kept of those of the module.
-use Rattle.base_lists.proofs.Common.{◌≡◌, ◌∙◌, ap, ap₂, sym, subst, refl, ℕ, suc, ◌+◌, ◌<◌, List, [], ◌∷◌, ◌++◌, map, length, replicate, Option, Some, is_some, true, arith, slice_get, slice_index, length-append, get_or-replicate, length-replicate, slice_get_within, numbers_index, map_stays, places_many}
+use Rattle.base_lists.proofs.Common.{◌≡◌, ◌∙◌, ap, ap₂, sym, subst, refl, ℕ, suc, ◌+◌, ◌<◌, List, [], ◌∷◌, ◌++◌, map, length, replicate, Option, Some, is_some, true, arith, slice_get, slice_index, length-append, get_or-replicate, length-replicate, slice_get_within, numbers_index, map_stays}
+use Rattle.base_lists.proofs.Common.{places_many}
 use Rattle.std.proofs.Common.{filter_map}
 use Rattle.wasm_tree_spec.specs.Prelude.{Space, Functions, Tables, Memories, Globals, Import, ImportDesc, Module, func_of, table_of, memory_of, global_of, imported_funcs, imported_tables, imported_memories, imported_globals, funcs_of, tables_of, memories_of, globals_of}
 use Rattle.wasm_tree.specs.declared.module.ImportDesc.TheVariants as im

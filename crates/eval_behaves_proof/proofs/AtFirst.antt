@@ -1,5 +1,6 @@
 -- What is allocated for the quiet run, and for the module with one function more in an environment, is related but for what is unknown at first.
-use Rattle.base_lists.proofs.Common.{◌≡◌, ◌∙◌, sym, ap, subst, refl, ℕ, zero, suc, ◌+◌, ◌<◌, List, [], ◌∷◌, map, length, Bool, true, false, not, Option, Some, None, arith, slice_get, option_and_then, get_or, nat_eq, ◌&&◌, and_from, eq-eqb, not-true, get_or_from_slice_get, same_Some, slice_get_past, slice_get_within, place_there, places_many, numbers_is, all_there_at, all_there_length, and_then_is, append_at_left, append_right, map_at, slice_get_none, slice_get_there, length-map, copies_rel, get_rel, both_at, opt_at, opt_both}
+use Rattle.base_lists.proofs.Common.{◌≡◌, ◌∙◌, sym, ap, subst, refl, ℕ, zero, suc, ◌+◌, ◌<◌, List, [], ◌∷◌, map, length, Bool, true, false, not, Option, Some, None, arith, slice_get, option_and_then, get_or, nat_eq, ◌&&◌, and_from, eq-eqb, not-true, get_or_from_slice_get, same_Some, slice_get_past}
+use Rattle.base_lists.proofs.Common.{slice_get_within, place_there, places_many, numbers_is, all_there_at, all_there_length, and_then_is, append_at_left, append_right, map_at, slice_get_none, slice_get_there, length-map, copies_rel, get_rel, both_at, opt_at, opt_both}
 use Rattle.base_lists.specs.Members.{is_among}
 use Rattle.std.proofs.lemmas.List.Folds.{list_any_at}
 use Rattle.base_lists.specs.Places.{places}

@@ -5,7 +5,8 @@ use Rattle.wasm_tree_spec.specs.Prelude.{Space, Functions, ValType, RefType, Mod
 use Rattle.wasm_tree.specs.declared.types.ValType.TheVariants as valt
 use Rattle.wasm_tree.specs.declared.types.RefType.TheVariants as reft
 use Rattle.wasm_meaning.specs.Prelude.{Outcome, Gives, bind, or_ill_typed, Val, Func, Code, Store, Entry, Running, Mark, Next, Ran, EndsCall, zeros, zero_of, null_of, enter, step}
-use Rattle.index_remap.specs.Prelude.{Pairing, OneToOneWhereWritten, ResRel, done, none, BothRel, both, ListRel, nil, cons, RefRel, func, extern, ValRel, number, reference, end, FuncRel, defined, own, slot, EntryRel, running, mark, returned, passed, Above, Unknowns, StoreRelOff, StepsAgreeOff, RunsAgreeOff, NextOff, left_unknown}
+use Rattle.index_remap.specs.Prelude.{Pairing, OneToOneWhereWritten, ResRel, done, none, BothRel, both, ListRel, nil, cons, RefRel, func, extern, ValRel, number, reference, end, FuncRel, defined, own, slot, EntryRel, running, mark, returned, passed, Above, Unknowns, StoreRelOff, StepsAgreeOff}
+use Rattle.index_remap.specs.Prelude.{RunsAgreeOff, NextOff, left_unknown}
 use Rattle.index_remap.proofs.AboveSteps.{whole}
 use Rattle.eval_spec.specs.declared.limits.TheConstants.{MOST_TURNS}
 use Rattle.eval_spec.specs.Prelude.{State, Stage, Going, Stopped, Finished, Test, first_held, stopped_or, frame_turns, host_tests, called_in_order, ComesTo, call_end, came_to, host_opened_if_there, run_end, weight, own_inst}

@@ -1,5 +1,6 @@
 -- The segments of a memory's contents are copied over zeros: then the bytes stand there.
-use Rattle.base_lists.proofs.Common.{◌≡◌, ◌∙◌, sym, ap, refl, ℕ, zero, suc, ◌+◌, ◌-◌, ◌<◌, ◌≤◌, List, [], ◌∷◌, ◌++◌, length, take, drop, Bool, true, false, cond, not, Option, Some, ◌⊎◌, inl, inr, arith, slice_get, get_or, nat_eq, cases_lt, eqb-true, length-drop, length-take-le, length-append, get_or-drop, get_or-take, get_or_append_left, slice_get-get_or, place_there, split_take}
+use Rattle.base_lists.proofs.Common.{◌≡◌, ◌∙◌, sym, ap, refl, ℕ, zero, suc, ◌+◌, ◌-◌, ◌<◌, ◌≤◌, List, [], ◌∷◌, ◌++◌, length, take, drop, Bool, true, false, cond, not, Option, Some, ◌⊎◌, inl, inr, arith, slice_get, get_or, nat_eq, cases_lt, eqb-true, length-drop, length-take-le, length-append}
+use Rattle.base_lists.proofs.Common.{get_or-drop, get_or-take, get_or_append_left, slice_get-get_or, place_there, split_take}
 use Rattle.std.proofs.lemmas.List.{get_or-append-add}
 use Rattle.base_lists.specs.Places.{places}
 use Rattle.block_pool.specs.Pages.{part}

@@ -1,5 +1,6 @@
 -- What the data segments of a module and of its snapshot copy into memories: nothing into the environment's own, and into the defined one of the snapshot what it is to hold.
-use Rattle.base_lists.proofs.Common.{◌≡◌, ◌∙◌, sym, ap, refl, subst, ℕ, suc, ◌+◌, ◌-◌, ◌*◌, ◌^◌, ◌<◌, ◌≤◌, List, [], ◌∷◌, ◌++◌, map, length, false, cond, Option, Some, None, ◌⊎◌, inl, inr, ⊎_elim, arith, slice_get, nat_lt, cases_lt, lt-ltb, ne_eqb, places_many, length-append, slice_get_within, every_at, append_from, map_at, map_from, length-map}
+use Rattle.base_lists.proofs.Common.{◌≡◌, ◌∙◌, sym, ap, refl, subst, ℕ, suc, ◌+◌, ◌-◌, ◌*◌, ◌^◌, ◌<◌, ◌≤◌, List, [], ◌∷◌, ◌++◌, map, length, false, cond, Option, Some, None, ◌⊎◌, inl, inr, ⊎_elim, arith, slice_get, nat_lt, cases_lt, lt-ltb, ne_eqb, places_many, length-append, slice_get_within}
+use Rattle.base_lists.proofs.Common.{every_at, append_from, map_at, map_from, length-map}
 use Rattle.std.proofs.lemmas.Bool.{true≢false}
 use Rattle.base_lists.specs.Options.{◌>>=◌}
 use Rattle.wasm_tree_spec.specs.Prelude.{Memories, Limits, ConstExpr, DataMode, DataSeg, Module, imported_memories, memories_of}

@@ -1,6 +1,7 @@
 -- The functions that the quiet run has at first and those at their addresses in an environment are the same: imported ones are the environment's own of equal pair and type,
 -- and defined ones have the same code over both instances.
-use Rattle.base_lists.proofs.Common.{◌≡◌, ◌∙◌, sym, ap, ap₂, subst, refl, ℕ, suc, ◌+◌, ◌<◌, List, [], ◌∷◌, ◌++◌, map, length, true, Option, Some, is_some, inl, inr, arith, slice_get, option_and_then, cons_option, filter_map, ltb-true, and_parts, length-append, same_Some, chosen_from, place_of, places_many, length-numbers, all_there_at, and_then_is, append_at_left, append_from, append_right, slice_get_there, all_there_back, length-map, both_at, opt_both}
+use Rattle.base_lists.proofs.Common.{◌≡◌, ◌∙◌, sym, ap, ap₂, subst, refl, ℕ, suc, ◌+◌, ◌<◌, List, [], ◌∷◌, ◌++◌, map, length, true, Option, Some, is_some, inl, inr, arith, slice_get, option_and_then, cons_option, filter_map, ltb-true, and_parts, length-append, same_Some, chosen_from, place_of}
+use Rattle.base_lists.proofs.Common.{places_many, length-numbers, all_there_at, and_then_is, append_at_left, append_from, append_right, slice_get_there, all_there_back, length-map, both_at, opt_both}
 use Rattle.std.specs.Prelude.{unwrap_or}
 use Rattle.wasm_tree_spec.specs.Prelude.{Functions, same_space, FuncType, Import, ImportDesc, Module, func_of, funcs_of, imported_funcs, space_of_import}
 use Rattle.wasm_tree.specs.declared.module.ImportDesc.TheVariants as im

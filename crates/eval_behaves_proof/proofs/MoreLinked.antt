@@ -1,11 +1,13 @@
 -- Where an environment links a module it instantiates the module with one function more, whatever names of the module may be used.
-use Rattle.base_lists.proofs.Common.{◌≡◌, ◌∙◌, sym, ap, subst, refl, ℕ, zero, suc, ◌+◌, ◌<◌, List, [], ◌∷◌, ◌++◌, length, Bool, true, false, cond, Option, Some, None, inl, inr, arith, slice_get, option_and_then, nat_eq, nat_lt, ◌&&◌, IsTrue, and_from, and_parts, eq-eqb, eqb-true, lt-ltb, ltb-true, same_Some, chosen_from, all_there_at, all_there_from, and_then_is, append_from, map_from, slice_get_there, is_some_there}
+use Rattle.base_lists.proofs.Common.{◌≡◌, ◌∙◌, sym, ap, subst, refl, ℕ, zero, suc, ◌+◌, ◌<◌, List, [], ◌∷◌, ◌++◌, length, Bool, true, false, cond, Option, Some, None, inl, inr, arith, slice_get, option_and_then, nat_eq, nat_lt, ◌&&◌, IsTrue, and_from, and_parts, eq-eqb, eqb-true, lt-ltb, ltb-true}
+use Rattle.base_lists.proofs.Common.{same_Some, chosen_from, all_there_at, all_there_from, and_then_is, append_from, map_from, slice_get_there, is_some_there}
 use Rattle.std.specs.Prelude.{unwrap_or}
 use Rattle.base_lists.specs.Places.{first_place}
 use Rattle.wasm_tree_spec.specs.Prelude.{Space, Functions, Tables, Memories, Globals, ElementSegments, DataSegments, FuncType, GlobalDef, ElemSeg, Export, ExportDesc, Module, funcs_of, tables_of, memories_of, globals_of}
 use Rattle.wasm_tree.specs.declared.module.Func as tree
 use Rattle.wasm_tree.specs.declared.module.ExportDesc.TheVariants as ex
-use Rattle.wasm_meaning.specs.Prelude.{Text, Inst, Func, Code, Global, Elem, Store, declared, ref_of, Entity, sites, Environment, ExternalValue, FuncAt, TableAt, MemoryAt, GlobalAt, all_of, Begun, address_in, all_there, alone, begun, elem_of, insts_from, instantiate, is_matched, joined_stores, links, new_elem, new_func, new_global, own_count, own_store, part_store, seen_as, segments, stores_from, value_of, inst_of}
+use Rattle.wasm_meaning.specs.Prelude.{Text, Inst, Func, Code, Global, Elem, Store, declared, ref_of, Entity, sites, Environment, ExternalValue, FuncAt, TableAt, MemoryAt, GlobalAt, all_of, Begun, address_in, all_there, alone, begun, elem_of, insts_from, instantiate, is_matched, joined_stores}
+use Rattle.wasm_meaning.specs.Prelude.{links, new_elem, new_func, new_global, own_count, own_store, part_store, seen_as, segments, stores_from, value_of, inst_of}
 use Rattle.index_remap.specs.Prelude.{Pairing, passed}
 use Rattle.index_remap_proof.specs.Indices.{ExportNamesOnly, TreeNamesOnly, with_entry}
 use Rattle.world_simulation.specs.Prelude.{one, SharesOwn, DefinitionsCorrespond, Instantiated, IsInstantiated, WhatIsInstantiated, Adds, IsInst}

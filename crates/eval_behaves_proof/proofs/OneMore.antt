@@ -1,6 +1,7 @@
 -- A module and the same with one function more, in an environment: each index of the first has the address in the second that it has in the first, and constant expressions
 -- have the values in the second that they have in the first.
-use Rattle.base_lists.proofs.Common.{◌≡◌, ◌∙◌, sym, ap, refl, add-zero, ℕ, ◌+◌, ◌≤◌, List, [], ◌∷◌, ◌++◌, map, length, Option, Some, None, inl, inr, arith, slice_get, option_and_then, length-append, length-numbers, all_there_length, places_many, same_Some, numbers_at, and_then_is, append_at_left, append_from, append_right, length-map, number_is}
+use Rattle.base_lists.proofs.Common.{◌≡◌, ◌∙◌, sym, ap, refl, add-zero, ℕ, ◌+◌, ◌≤◌, List, [], ◌∷◌, ◌++◌, map, length, Option, Some, None, inl, inr, arith, slice_get, option_and_then, length-append, length-numbers, all_there_length, places_many, same_Some, numbers_at, and_then_is, append_at_left}
+use Rattle.base_lists.proofs.Common.{append_from, append_right, length-map, number_is}
 use Rattle.base_lists.specs.Places.{numbers}
 use Rattle.wasm_tree_spec.specs.Prelude.{Space, Types, Functions, Tables, Memories, Globals, ElementSegments, DataSegments, ConstExpr, Module, imported_funcs, imported_tables, imported_memories, imported_globals, funcs_of, tables_of, memories_of, globals_of}
 use Rattle.wasm_tree.specs.declared.module.ConstExpr.TheVariants as const

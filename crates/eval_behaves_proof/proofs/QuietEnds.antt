@@ -2,7 +2,8 @@
 use Rattle.base_lists.proofs.Common.{◌≡◌, ◌∙◌, sym, ap, refl, subst, ℕ, zero, suc, ◌≤◌, List, [], ◌∷◌, Bool, true, false, cond, not, ◌||◌, Option, Some, None, arith, slice_get, nat_eq, filter}
 use Rattle.base_lists.specs.Members.{is_among}
 use Rattle.wasm_tree_spec.specs.Prelude.{Module}
-use Rattle.wasm_meaning.specs.Prelude.{Outcome, Gives, Traps, IllTyped, Val, Func, Code, Own, Placeholder, Level, Frame, Store, Change, Keep, SetGlobal, SetMemory, SetTable, DropElem, DropData, Entry, Running, Mark, Opening, Waiting, Ended, Growing, Act, Goes, Calls, AsksGrow, Ends, Next, Ran, CallsOwn, WaitsGrowth, CallsPlaceholder, EndsCall, pop_typed, type_at, act, changed, give, give_levels, enter, perform, step}
+use Rattle.wasm_meaning.specs.Prelude.{Outcome, Gives, Traps, IllTyped, Val, Func, Code, Own, Placeholder, Level, Frame, Store, Change, Keep, SetGlobal, SetMemory, SetTable, DropElem, DropData, Entry, Running, Mark, Opening, Waiting, Ended, Growing, Act, Goes, Calls, AsksGrow, Ends, Next, Ran}
+use Rattle.wasm_meaning.specs.Prelude.{CallsOwn, WaitsGrowth, CallsPlaceholder, EndsCall, pop_typed, type_at, act, changed, give, give_levels, enter, perform, step}
 use Rattle.wasm_meaning.proofs.Outcomes.{AllOf, ill_typed, just, with_is, with_found, all_at}
 use Rattle.index_remap.specs.Prelude.{Unknowns, left_by, left_after, left_unknown}
 use Rattle.eval_spec.specs.Prelude.{State, Going, Stopped, Finished, Test, first_held, stopped_or, Beginning, beginning, tests, after_steps, came_to, spent, spent_at}

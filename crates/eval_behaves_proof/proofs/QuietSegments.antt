@@ -10,7 +10,8 @@ use Rattle.world_contents_proof.specs.Leaves.{elem_copies, data_copies}
 use Rattle.world_contents_proof.proofs.Copies.{all_stay}
 use Rattle.world_contents_proof.specs.Copies.{OwnSegmentsRunAsCopies, memories, runs, tables}
 use Rattle.eval_spec.specs.declared.stop.Stop.TheVariants as why
-use Rattle.eval_spec.specs.Prelude.{State, Stage, Going, Stopped, Finished, Test, first_held, stopped_or, is_imported, test, writes_too_many, written_after, filled_from, imported_store, in_order, instantiated, own_inst, place_in, reads_global, state_at_first, value_in, with_data, with_data_mode, with_elem, with_segments}
+use Rattle.eval_spec.specs.Prelude.{State, Stage, Going, Stopped, Finished, Test, first_held, stopped_or, is_imported, test, writes_too_many, written_after, filled_from, imported_store, in_order, instantiated, own_inst, place_in, reads_global, state_at_first, value_in, with_data, with_data_mode}
+use Rattle.eval_spec.specs.Prelude.{with_elem, with_segments}
 use Rattle.eval_proof.specs.Machines.{InstantiatedAs}
 
 -- ---- one after the other ----

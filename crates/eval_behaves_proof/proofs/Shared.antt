@@ -1,5 +1,6 @@
 -- The relation of each address to itself, below a bound for each space, and the index spaces of two modules with the same imports.
-use Rattle.base_lists.proofs.Common.{◌≡◌, ◌∙◌, sym, ap, ap₂, ℕ, ◌+◌, ◌-◌, ◌<◌, ◌≤◌, List, [], ◌++◌, length, Bool, ◌&&◌, Some, inl, inr, arith, slice_get, refl, true, IsTrue, nat_eq, nat_lt, and_parts, cases_lt, eq-eqb, eqb-true, lt-ltb, ltb-true, same_Some, numbers_at, append_left, append_right, slice_get_there, get_rel, opt_at, opt_both}
+use Rattle.base_lists.proofs.Common.{◌≡◌, ◌∙◌, sym, ap, ap₂, ℕ, ◌+◌, ◌-◌, ◌<◌, ◌≤◌, List, [], ◌++◌, length, Bool, ◌&&◌, Some, inl, inr, arith, slice_get, refl, true, IsTrue, nat_eq, nat_lt, and_parts, cases_lt, eq-eqb, eqb-true, lt-ltb, ltb-true, same_Some, numbers_at, append_left, append_right}
+use Rattle.base_lists.proofs.Common.{slice_get_there, get_rel, opt_at, opt_both}
 use Rattle.base_lists.specs.Places.{numbers}
 use Rattle.wasm_tree_spec.specs.Prelude.{Space, Functions, Tables, Memories, Globals, Module}
 use Rattle.wasm_meaning.specs.Prelude.{imports_of, Environment, defined_count, own_count, space}

@@ -1,5 +1,6 @@
 -- Which slots are unknown after an element segment was copied into a table of the quiet run.
-use Rattle.base_lists.proofs.Common.{◌≡◌, ◌∙◌, sym, ap, refl, ℕ, zero, suc, ◌+◌, ◌-◌, ◌<◌, ◌≤◌, List, [], ◌∷◌, map, length, Bool, true, false, cond, not, Some, ◌⊎◌, inl, inr, arith, slice_get, nat_eq, nat_le, nat_lt, ◌&&◌, filter, eq-eqb, le-leb, le-ltb, lt-leb, lt-ltb, ne_eqb, not-true, is_kept, numbers_at, Has, append_at_left, append_right, map_at, same_Some}
+use Rattle.base_lists.proofs.Common.{◌≡◌, ◌∙◌, sym, ap, refl, ℕ, zero, suc, ◌+◌, ◌-◌, ◌<◌, ◌≤◌, List, [], ◌∷◌, map, length, Bool, true, false, cond, not, Some, ◌⊎◌, inl, inr, arith, slice_get, nat_eq, nat_le, nat_lt, ◌&&◌, filter, eq-eqb, le-leb, le-ltb, lt-leb, lt-ltb, ne_eqb, not-true, is_kept}
+use Rattle.base_lists.proofs.Common.{numbers_at, Has, append_at_left, append_right, map_at, same_Some}
 use Rattle.std.proofs.lemmas.Bool.{not_from_false}
 use Rattle.base_lists.specs.Places.{numbers}
 use Rattle.wasm_meaning.specs.Prelude.{Table}

@@ -1,5 +1,6 @@
 -- In an environment where a module with one more function is instantiated, its snapshot is allocated, its imports match and its names denote what the module's names denote.
-use Rattle.base_lists.proofs.Common.{◌≡◌, ◌∙◌, sym, ap, ap₂, refl, subst, ℕ, zero, suc, ◌+◌, List, [], ◌∷◌, map, length, Bool, true, false, cond, Some, None, ⊎_elim, arith, slice_get, list_any, length-append, any_passes_from_place, same_Some, chosen_from, all_there_at, all_there_from, all_there_length, length-numbers, places_many, and_then_is, append_at_left, append_from, push_last, length-map, then_rel, is_some_there}
+use Rattle.base_lists.proofs.Common.{◌≡◌, ◌∙◌, sym, ap, ap₂, refl, subst, ℕ, zero, suc, ◌+◌, List, [], ◌∷◌, map, length, Bool, true, false, cond, Some, None, ⊎_elim, arith, slice_get, list_any, length-append, any_passes_from_place, same_Some, chosen_from, all_there_at, all_there_from}
+use Rattle.base_lists.proofs.Common.{all_there_length, length-numbers, places_many, and_then_is, append_at_left, append_from, push_last, length-map, then_rel, is_some_there}
 use Rattle.base_lists.specs.Options.{◌>>=◌}
 use Rattle.wasm_tree_spec.specs.Prelude.{Space, Functions, Tables, Memories, Globals, ElementSegments, DataSegments, ElemSeg, Export, ExportDesc, GlobalDef, Module, imported_funcs, funcs_of, tables_of, memories_of, globals_of}
 use Rattle.wasm_tree.specs.declared.module.ExportDesc.TheVariants as ex

@@ -3,7 +3,8 @@ use Rattle.base_lists.proofs.Common.{◌≡◌, ◌∙◌, sym, ap, refl, subst,
 use Rattle.base_lists.specs.Related.{EachRelated}
 use Rattle.base_lists.proofs.Related.{each_self, each_then, each_set}
 use Rattle.wasm_tree_spec.specs.Prelude.{Module}
-use Rattle.wasm_meaning.specs.Prelude.{Outcome, Gives, Traps, IllTyped, Val, Func, Code, Own, Placeholder, Memory, Global, Data, Store, Level, Frame, Change, Entry, Running, Mark, Opening, Waiting, Ended, Growing, Act, Goes, Calls, AsksGrow, Ends, Next, Ran, CallsOwn, WaitsGrowth, CallsPlaceholder, EndsCall, pop_typed, type_at, act, changed, give, give_levels, enter, no_bytes, perform, step, Touched, Writes, StepsWriteWhatTheyTouch, ActWrites, touched}
+use Rattle.wasm_meaning.specs.Prelude.{Outcome, Gives, Traps, IllTyped, Val, Func, Code, Own, Placeholder, Memory, Global, Data, Store, Level, Frame, Change, Entry, Running, Mark, Opening, Waiting, Ended, Growing, Act, Goes, Calls, AsksGrow, Ends, Next, Ran, CallsOwn, WaitsGrowth, CallsPlaceholder}
+use Rattle.wasm_meaning.specs.Prelude.{EndsCall, pop_typed, type_at, act, changed, give, give_levels, enter, no_bytes, perform, step, Touched, Writes, StepsWriteWhatTheyTouch, ActWrites, touched}
 use Rattle.wasm_meaning.specs.Touched as what
 use Rattle.wasm_meaning.proofs.Outcomes.{AllOf, ill_typed, just, with_is, with_found}
 use Rattle.eval_spec.specs.declared.limits.TheConstants.{MOST_TURNS}

@@ -1,5 +1,6 @@
 -- The store after the machine's run and that of the snapshot: all that both have stands at the same addresses and is related.
-use Rattle.base_lists.proofs.Common.{◌≡◌, ◌∙◌, sym, ap, refl, subst, ℕ, ◌+◌, ◌-◌, ◌<◌, List, [], length, Bool, true, false, cond, not, ◌&&◌, Option, Some, inl, inr, arith, slice_get, ◌∷◌, cases_lt, length-append, places_many, same_Some, slice_get_within, append_at_left, slice_get_there, numbers_at, same_there, both_at}
+use Rattle.base_lists.proofs.Common.{◌≡◌, ◌∙◌, sym, ap, refl, subst, ℕ, ◌+◌, ◌-◌, ◌<◌, List, [], length, Bool, true, false, cond, not, ◌&&◌, Option, Some, inl, inr, arith, slice_get, ◌∷◌, cases_lt, length-append, places_many, same_Some, slice_get_within, append_at_left, slice_get_there, numbers_at}
+use Rattle.base_lists.proofs.Common.{same_there, both_at}
 use Rattle.std.specs.Prelude.{unwrap_or}
 use Rattle.base_lists.specs.Options.{◌>>=◌}
 use Rattle.wasm_tree_spec.specs.Prelude.{any_uses_data, Functions, Tables, Memories, Globals, ElementSegments, DataSegments, ConstExpr, DataMode, DataSeg, Module, imported_memories}

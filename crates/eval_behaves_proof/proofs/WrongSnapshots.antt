@@ -11,7 +11,8 @@ use Rattle.wasm_meaning.specs.Prelude.{Text, Environment, Number, OwnFunc, is_en
 use Rattle.wasm_meaning.specs.Access.{little, little_bytes, load_to, load_width, loaded, store_from, stored}
 use Rattle.eval_behaves_proof.specs.Worlds.{events_evaluated}
 use Rattle.eval_behaves_proof.specs.Laws.{ObservationallyEquivalent}
-use Rattle.eval_behaves_proof.proofs.SmallRuns.{a, c, own, nothing, empty, does, num, exported, mutable_i32, mutable_ref, global, number, setting, setting_left, setting_kept, seven_is_asked, after_setting, nine_is_set, after_setting_kept, storing, storing_left, offering, bytes_are_read, bytes_are_seen, after_storing, reading, reading_left, offering_four, globals_are_read, after_reading, filling, filling_left, it_is_filled, after_nothing}
+use Rattle.eval_behaves_proof.proofs.SmallRuns.{a, c, own, nothing, empty, does, num, exported, mutable_i32, mutable_ref, global, number, setting, setting_left, setting_kept, seven_is_asked, after_setting, nine_is_set, after_setting_kept, storing, storing_left, offering, bytes_are_read}
+use Rattle.eval_behaves_proof.proofs.SmallRuns.{bytes_are_seen, after_storing, reading, reading_left, offering_four, globals_are_read, after_reading, filling, filling_left, it_is_filled, after_nothing}
 
 -- Where what is seen of a module in so many steps does not begin what is seen after the constructors in as many, it does not behave so.
 refused : (m : Module) (evaluated kept : List Text) (other : Module) (env : Environment) (moves : List Move) (n : ℕ) (xs ys : List Event) → IsTrue (is_environment env) → IsTrue (links env (alone m)) →

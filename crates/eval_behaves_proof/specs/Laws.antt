@@ -18,7 +18,8 @@ ObservationallyEquivalent m evaluated kept other = Same (λ env. IsTrue (links e
 -- constructors, if the state has what these leave, the tables of the module have fewer than 2 ^ 32
 -- slots, and its data segments hold bytes.
 abbrev pub SnapshotEquivalent : Type 0
-SnapshotEquivalent = (m : Module) (evaluated kept : List Text) (s : State) → IsValid m → BeginsInRange m → IsAfter m evaluated s → ObservationallyEquivalent m evaluated kept (snapshot m s evaluated kept)
+SnapshotEquivalent = (m : Module) (evaluated kept : List Text) (s : State) → IsValid m → BeginsInRange m → IsAfter m evaluated s →
+    ObservationallyEquivalent m evaluated kept (snapshot m s evaluated kept)
 
 -- If no constructor is evaluated, the module itself is observationally equivalent to the module
 -- after its evaluated constructors.
@@ -36,4 +37,5 @@ EvaluatedRunsAreDetermined =
 -- The trace of fewer steps is a prefix of that of more.
 abbrev pub ShorterEvaluatedRunsArePrefixes : Type 0
 ShorterEvaluatedRunsArePrefixes =
-    (m : Module) (evaluated kept : List Text) (env : Environment) (moves : List Move) (n k : ℕ) → IsPrefix (events_evaluated m evaluated kept env moves n) (events_evaluated m evaluated kept env moves (n + k))
+    (m : Module) (evaluated kept : List Text) (env : Environment) (moves : List Move) (n k : ℕ) →
+    IsPrefix (events_evaluated m evaluated kept env moves n) (events_evaluated m evaluated kept env moves (n + k))

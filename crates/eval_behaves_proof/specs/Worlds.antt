@@ -5,7 +5,8 @@ use Rattle.std.specs.Prelude.{ℕ, suc, ◌+◌, ◌*◌, List, [], ◌∷◌, �
 use Rattle.std.specs.List.{filter_map}
 use Rattle.base_lists.specs.Options.{◌>>=◌, all_there}
 use Rattle.wasm_tree_spec.specs.Prelude.{Functions, Export, Module, funcs_of}
-use Rattle.wasm_meaning.specs.Prelude.{Outcome, Gives, Text, Store, Mark, Next, Ran, EndsCall, step, enter_at, Environment, World, Begun, alone, space, instantiate, Move, Event, tick, fresh_run, events_of, events}
+use Rattle.wasm_meaning.specs.Prelude.{Outcome, Gives, Text, Store, Mark, Next, Ran, EndsCall, step, enter_at, Environment, World, Begun, alone, space, instantiate, Move, Event, tick, fresh_run}
+use Rattle.wasm_meaning.specs.Prelude.{events_of, events}
 use Rattle.world_simulation.specs.Prelude.{one}
 use Rattle.eval_spec.specs.declared.limits.TheConstants.{MOST_TURNS}
 use Rattle.eval_snapshot_spec.specs.Snapshot.{export_left, empty_func}

@@ -5,7 +5,8 @@ use Rattle.wasm_bytes.specs.Prelude.{Section, Each, Sized, U32, Vector, IsBytes,
 use Rattle.wasm_bytes.specs.Numbers.{Unsigned}
 use Rattle.wasm_tree_spec.specs.Prelude.{Limits, TableType, DataSeg, Module}
 use Rattle.wasm_read_spec.specs.declared.parts.Parts.{Parts}
-use Rattle.wasm_read_spec.specs.Prelude.{Both, MadeFrom, Never, When, SpellsConst, SpellsFuncType, SpellsLimits, SpellsTable, at_least, between, SpellsData, SpellsElem, SpellsExport, SpellsGlobalDef, SpellsImport, data0, data1, data2, SpellsEntry, SectionContents, Spells, nothing, tree_of, with_codes, with_count, with_datas, with_elems, with_exports, with_func_types, with_globals, with_imports, with_mems, with_start, with_tables, with_types}
+use Rattle.wasm_read_spec.specs.Prelude.{Both, MadeFrom, Never, When, SpellsConst, SpellsFuncType, SpellsLimits, SpellsTable, at_least, between, SpellsData, SpellsElem, SpellsExport, SpellsGlobalDef, SpellsImport, data0, data1, data2, SpellsEntry, SectionContents, Spells, nothing, tree_of}
+use Rattle.wasm_read_spec.specs.Prelude.{with_codes, with_count, with_datas, with_elems, with_exports, with_func_types, with_globals, with_imports, with_mems, with_start, with_tables, with_types}
 use Rattle.wasm_read_spec.specs.Values.{limits_form}
 use Rattle.wasm_read_spec.specs.Sections.{data_form}
 use Rattle.wasm_read_spec.specs.Files.{section_form}

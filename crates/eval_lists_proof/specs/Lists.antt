@@ -12,7 +12,8 @@ AddedAreEvaluated = (m : Module) (funcs : List ℕ) (func : ℕ) (s t : State) �
 -- If the run of the longer list is quiet, so is that of the list; and from the state after the
 -- list, the call finishes in the state after the longer list.
 abbrev pub EvaluatedAreAdded : Type 0
-EvaluatedAreAdded = (m : Module) (funcs : List ℕ) (func : ℕ) (t : State) → evaluated m (funcs ++ func ∷ []) ≡ Finished t → (s : State) × (evaluated m funcs ≡ Finished s) × (call_end m s func ≡ Finished t)
+EvaluatedAreAdded = (m : Module) (funcs : List ℕ) (func : ℕ) (t : State) → evaluated m (funcs ++ func ∷ []) ≡ Finished t → (s : State) × (evaluated m funcs ≡ Finished s) ×
+    (call_end m s func ≡ Finished t)
 
 -- The run of no constructor is the instantiation with the start.
 abbrev pub NoneIsTheInstantiation : Type 0

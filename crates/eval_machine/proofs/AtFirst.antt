@@ -1,5 +1,6 @@
 -- The globals of a machine at first, imported ones and then those that the module defines.
-use Rattle.base_lists.proofs.Common.{◌≡◌, ℕ, suc, ◌+◌, ◌<◌, ◌≤◌, List, [], ◌∷◌, ◌++◌, map, length, Bool, true, false, cond, Option, Some, None, refl, sym, ap, ap₂, ◌∙◌, inl, inr, arith, nat_lt, slice_get, lt-ltb, le-ltb, map-append, length-map, same_Some, slice_get_within, append_from, map_at, map_from, map_twice}
+use Rattle.base_lists.proofs.Common.{◌≡◌, ℕ, suc, ◌+◌, ◌<◌, ◌≤◌, List, [], ◌∷◌, ◌++◌, map, length, Bool, true, false, cond, Option, Some, None, refl, sym, ap, ap₂, ◌∙◌, inl, inr, arith, nat_lt, slice_get, lt-ltb, le-ltb, map-append, length-map, same_Some, slice_get_within, append_from, map_at}
+use Rattle.base_lists.proofs.Common.{map_from, map_twice}
 use Rattle.base_lists.specs.Options.{◌>>=◌, all_there}
 use Rattle.base_lists.specs.Places.{places}
 use Rattle.wasm_tree_spec.specs.Prelude.{Globals, GlobalType, ConstExpr, GlobalDef, Module, imported_globals}

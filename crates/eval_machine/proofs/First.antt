@@ -1,5 +1,6 @@
 -- The state at first of a valid module, in which nothing was copied yet.
-use Rattle.base_lists.proofs.Common.{◌≡◌, ℕ, zero, suc, ◌+◌, ◌-◌, ◌*◌, ◌<◌, List, [], map, length, Bool, true, false, cond, ◌&&◌, not, Option, Some, None, refl, sym, ap, ◌∙◌, inl, inr, arith, subst, nat_lt, slice_get, cases_lt, lt-ltb, le-ltb, ltb-true, length-map, same_Some, slice_get_within, and_then_is, all_there_at, all_there_from, left_true, numbers_at, append_left, append_right, map_at, slice_get_there, copies_length}
+use Rattle.base_lists.proofs.Common.{◌≡◌, ℕ, zero, suc, ◌+◌, ◌-◌, ◌*◌, ◌<◌, List, [], map, length, Bool, true, false, cond, ◌&&◌, not, Option, Some, None, refl, sym, ap, ◌∙◌, inl, inr, arith, subst, nat_lt, slice_get, cases_lt, lt-ltb, le-ltb, ltb-true, length-map, same_Some, slice_get_within}
+use Rattle.base_lists.proofs.Common.{and_then_is, all_there_at, all_there_from, left_true, numbers_at, append_left, append_right, map_at, slice_get_there, copies_length}
 use Rattle.base_lists.specs.Options.{◌>>=◌, all_there}
 use Rattle.wasm_tree_spec.specs.Prelude.{RefType, ValType, TableType, GlobalType, ConstExpr, ElemSeg, Module, funcs_of, globals_of, imported_tables, imported_globals}
 use Rattle.wasm_tree.specs.declared.types.RefType.TheVariants as reft

@@ -1,5 +1,6 @@
 -- The functions of a module that is instantiated: those that are imported, and then the code of those that it defines.
-use Rattle.base_lists.proofs.Common.{◌≡◌, ℕ, zero, suc, ◌+◌, ◌-◌, ◌<◌, ◌≤◌, arith, List, [], ◌∷◌, ◌++◌, length, map, slice_get, Bool, true, false, cond, Option, Some, None, refl, sym, ap, ◌∙◌, subst, nat_lt, filter_map, length-append, length-map, none-some, same_Some, slice_get_past, all_there_at, all_there_length, append_left, append_right, slice_get_there, none_past}
+use Rattle.base_lists.proofs.Common.{◌≡◌, ℕ, zero, suc, ◌+◌, ◌-◌, ◌<◌, ◌≤◌, arith, List, [], ◌∷◌, ◌++◌, length, map, slice_get, Bool, true, false, cond, Option, Some, None, refl, sym, ap, ◌∙◌, subst, nat_lt, filter_map, length-append, length-map, none-some, same_Some, slice_get_past, all_there_at}
+use Rattle.base_lists.proofs.Common.{all_there_length, append_left, append_right, slice_get_there, none_past}
 use Rattle.std.specs.Prelude.{unwrap_or}
 use Rattle.base_lists.specs.Options.{◌>>=◌, all_there}
 use Rattle.wasm_tree_spec.specs.Prelude.{FuncType, Import, ElemSeg, ElemMode, DataSeg, DataMode, Module, func_of, funcs_of, imported_funcs, memories_of}
@@ -10,7 +11,8 @@ use Rattle.wasm_num.specs.Operations.{W32}
 use Rattle.wasm_meaning.specs.Prelude.{overwrite, Pair, RefVal, Func, Code, Own, Table, Memory, Global, Elem, Data, Store, declared, num_of, pair_of, Filled, PlacedSegment, copy_slots, copy_bytes, elem_with, global_with, new_func, or_trapped, run_elem_with, run_data_with, segments_in, Gives, Bytes}
 use Rattle.eval_spec.specs.declared.limits.TheConstants.{MOST_TURNS}
 use Rattle.eval_spec.specs.declared.stop.Stop.TheVariants as why
-use Rattle.eval_spec.specs.Prelude.{State, Stage, Going, Stopped, Finished, Test, first_held, is_finished, state_of, stopped_or, written_after, copied_slots, data_tests, elem_tests, imported_func, place_in, in_order, instantiated, filled_from, own_inst, state_at_first, value_in, with_data, with_data_mode, with_elem, with_elem_mode, with_segments}
+use Rattle.eval_spec.specs.Prelude.{State, Stage, Going, Stopped, Finished, Test, first_held, is_finished, state_of, stopped_or, written_after, copied_slots, data_tests, elem_tests, imported_func, place_in, in_order, instantiated, filled_from, own_inst, state_at_first, value_in, with_data}
+use Rattle.eval_spec.specs.Prelude.{with_data_mode, with_elem, with_elem_mode, with_segments}
 use Rattle.eval_references_proof.specs.Imports.{ImportsAreTyped}
 use Rattle.eval_machine.specs.declared.kept.Kept.{Kept}
 use Rattle.eval_machine.specs.Prelude.{MachineFits, store_in}
@@ -89,11 +91,13 @@ module _ (m : Module) (fs : List Func) where
   with_elem_has : (s : State) (task : PlacedSegment ElemSeg) (mode : ElemMode) → s.store.funcs ≡ fs → HasFuncs fs (with_elem_mode m s task mode)
   with_elem_has s task elem.Passive h = h
   with_elem_has s task elem.Declarative h = h
-  with_elem_has s task (elem.Active x offset) h = tried_has fs (first_held (elem_tests m s x offset (run_elem_with (value_in m) s.store task task.segment.mode))) (Finished (record s { store = (run_elem_with (value_in m) s.store task task.segment.mode).store; unknown = copied_slots s task.address x (place_in m offset) (length task.segment.items) })) (elem_keeps s task task.segment.mode h)
+  with_elem_has s task (elem.Active x offset) h = tried_has fs (first_held (elem_tests m s x offset (run_elem_with (value_in m) s.store task task.segment.mode)))
+      (Finished (record s { store = (run_elem_with (value_in m) s.store task task.segment.mode).store; unknown = copied_slots s task.address x (place_in m offset) (length task.segment.items) })) (elem_keeps s task task.segment.mode h)
 
   with_data_has : (s : State) (task : PlacedSegment DataSeg) (mode : DataMode) → s.store.funcs ≡ fs → HasFuncs fs (with_data_mode m s task mode)
   with_data_has s task data'.Passive h = h
-  with_data_has s task (data'.Active x offset) h = tried_has fs (first_held (data_tests m s x offset (run_data_with (value_in m) s.store task task.segment.mode) (Gives (Bytes x (place_in m offset) (length task.segment.bytes))))) (Finished (record s { store = (run_data_with (value_in m) s.store task task.segment.mode).store; written = written_after s.written (Gives (Bytes x (place_in m offset) (length task.segment.bytes))) })) (data_keeps s task task.segment.mode h)
+  with_data_has s task (data'.Active x offset) h = tried_has fs (first_held (data_tests m s x offset (run_data_with (value_in m) s.store task task.segment.mode) (Gives (Bytes x (place_in m offset) (length task.segment.bytes)))))
+      (Finished (record s { store = (run_data_with (value_in m) s.store task task.segment.mode).store; written = written_after s.written (Gives (Bytes x (place_in m offset) (length task.segment.bytes))) })) (data_keeps s task task.segment.mode h)
 
   in_order_has : {A : Type 0} (f : State → A → Stage) → ((s : State) (x : A) → s.store.funcs ≡ fs → HasFuncs fs (f s x)) → (t : Stage) (xs : List A) → HasFuncs fs t → HasFuncs fs (in_order f t xs)
   in_order_has f k (Finished s) [] h = h

@@ -1,5 +1,6 @@
 -- A call that the host makes, as the machine makes it.
-use Rattle.base_lists.proofs.Common.{◌≡◌, ℕ, zero, suc, ◌+◌, ◌-◌, ◌/◌, ◌<◌, ◌≤◌, List, [], ◌∷◌, map, length, Bool, true, false, Option, Some, None, refl, sym, ap, ◌∙◌, inl, inr, arith, slice_get, nat_lt, IsSome, filter_map, option_and_then, option_map, cases_lt, same_Some, slice_get_within, slice_get-map, length-map, and_then_is, chosen_from, append_at_left, append_left, append_right, map_at, slice_get_none, slice_get_there}
+use Rattle.base_lists.proofs.Common.{◌≡◌, ℕ, zero, suc, ◌+◌, ◌-◌, ◌/◌, ◌<◌, ◌≤◌, List, [], ◌∷◌, map, length, Bool, true, false, Option, Some, None, refl, sym, ap, ◌∙◌, inl, inr, arith, slice_get, nat_lt, IsSome, filter_map, option_and_then, option_map, cases_lt, same_Some, slice_get_within}
+use Rattle.base_lists.proofs.Common.{slice_get-map, length-map, and_then_is, chosen_from, append_at_left, append_left, append_right, map_at, slice_get_none, slice_get_there}
 use Rattle.std.proofs.Common.{length-append}
 use Rattle.wasm_tree_spec.specs.Prelude.{FuncType, ValType, Instr, Import, Module, func_of, funcs_of, imported_funcs, type_of_func}
 use Rattle.wasm_tree.specs.declared.module.Func.{Func as FuncDef}

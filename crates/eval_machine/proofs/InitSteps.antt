@@ -135,7 +135,8 @@ module _ (m : Module) (k : Kept) (f : MachineFits m k) (segment n : ℕ) (pages 
       opens = refl;
       touched = rw (t.address, pop, taken_size);
       further = rw (t.address, pop, taken_size);
-      done = rw (d.address, d.there, t.address, t.memory, pop, d.holds, slice_in bytes source count inside) (wrote_form (record { most = t.limits.max; pages = t.limits.min; bytes = pages.now.bytes }) n (body_at (record { kept = k; operands = below; locals = ls }) rest p) (overwrite pages.now.bytes to taken));
+      done = rw (d.address, d.there, t.address, t.memory, pop, d.holds, slice_in bytes source count inside)
+          (wrote_form (record { most = t.limits.max; pages = t.limits.min; bytes = pages.now.bytes }) n (body_at (record { kept = k; operands = below; locals = ls }) rest p) (overwrite pages.now.bytes to taken));
     }
 
     pub init_begins : (stop : Option Stop) (after : Pages) (turns : ℕ) → (stop, turns) ≡ told_of (first_held (write_tests k.turns pages to (length taken))) (k.turns - length taken / 64) → Wrote stop pages after to taken →

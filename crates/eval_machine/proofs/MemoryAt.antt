@@ -1,5 +1,6 @@
 -- The memory that a module defines, as an instruction finds it, and parts of its bytes.
-use Rattle.base_lists.proofs.Common.{◌≡◌, ℕ, ◌+◌, ◌-◌, ◌*◌, ◌<◌, ◌≤◌, arith, List, [], ◌∷◌, length, drop, slice_get, Bool, true, false, cond, Some, None, refl, sym, ap, ◌∙◌, inl, inr, subst, nat_lt, cases_lt, lt-ltb, le-ltb, ltb-false, length-append, length-drop, same_Some, slice_get_past, slice_get_within, none_past, length-numbers, split_take}
+use Rattle.base_lists.proofs.Common.{◌≡◌, ℕ, ◌+◌, ◌-◌, ◌*◌, ◌<◌, ◌≤◌, arith, List, [], ◌∷◌, length, drop, slice_get, Bool, true, false, cond, Some, None, refl, sym, ap, ◌∙◌, inl, inr, subst, nat_lt, cases_lt, lt-ltb, le-ltb, ltb-false, length-append, length-drop, same_Some, slice_get_past}
+use Rattle.base_lists.proofs.Common.{slice_get_within, none_past, length-numbers, split_take}
 use Rattle.block_pool.specs.Pages.{Pages, part, size as pages_size}
 use Rattle.wasm_tree_spec.specs.Prelude.{Memories, Limits, Module, imported_memories, memories_of}
 use Rattle.wasm_meaning.specs.Prelude.{slice}

@@ -1,5 +1,6 @@
 -- The active data segments of an instantiation, one after the other.
-use Rattle.base_lists.proofs.Common.{◌≡◌, ℕ, ℤ, zero, suc, ◌+◌, ◌<◌, ◌≤◌, List, [], ◌∷◌, ◌++◌, length, drop, replicate, Bool, true, false, cond, ◌||◌, Option, Some, None, refl, sym, ap, ◌∙◌, inl, inr, arith, slice_set, subst, length-map, length-replicate, length-set, nat_eq, nat_le, slice_get, cases_lt, cases_eq, cases_order, eq-eqb, eqb-true, leb-true, get_or_from_slice_get, same_Some, slice_get_past, slice_get_within, left_true, right_true, numbers_at, length-numbers, push_last, set_other, replicate_at}
+use Rattle.base_lists.proofs.Common.{◌≡◌, ℕ, ℤ, zero, suc, ◌+◌, ◌<◌, ◌≤◌, List, [], ◌∷◌, ◌++◌, length, drop, replicate, Bool, true, false, cond, ◌||◌, Option, Some, None, refl, sym, ap, ◌∙◌, inl, inr, arith, slice_set, subst, length-map, length-replicate, length-set, nat_eq, nat_le, slice_get}
+use Rattle.base_lists.proofs.Common.{cases_lt, cases_eq, cases_order, eq-eqb, eqb-true, leb-true, get_or_from_slice_get, same_Some, slice_get_past, slice_get_within, left_true, right_true, numbers_at, length-numbers, push_last, set_other, replicate_at}
 use Rattle.std.proofs.Common.{length-append}
 use Rattle.std.proofs.Math.Seq.{drop-cons}
 use Rattle.std.proofs.lemmas.Bool.{leb-false}
@@ -227,7 +228,8 @@ module _ (m : Module) (s : State) (n : ℕ) (d : DataSeg) (at : slice_get m.data
     data_goes : (offset : ConstExpr) (new : Option Pages) → d.mode ≡ data'.Active memory offset → data_stop m p memory offset (length d.bytes) ≡ None → WritesIn p new (place_at offset) d.bytes → with_data m old task ≡ Finished (data_state m s new (slice_set flags n true))
     data_goes offset new is h w = by (data_stop m p memory offset (length d.bytes)) (stop_is (reads_global offset || is_imported m Memories memory) (has_bytes m p memory offset (length d.bytes)) (too_many_blocks (with_reached (place_at offset) (length d.bytes) 0 (written_in p)))) h
       where
-        by : (o : Option Stop) → StopIs (reads_global offset || is_imported m Memories memory) (has_bytes m p memory offset (length d.bytes)) (too_many_blocks (with_reached (place_at offset) (length d.bytes) 0 (written_in p))) o → o ≡ None → with_data m old task ≡ Finished (data_state m s new (slice_set flags n true))
+        by : (o : Option Stop) → StopIs (reads_global offset || is_imported m Memories memory) (has_bytes m p memory offset (length d.bytes)) (too_many_blocks (with_reached (place_at offset) (length d.bytes) 0 (written_in p))) o → o ≡ None →
+            with_data m old task ≡ Finished (data_state m s new (slice_set flags n true))
         by None (nothing a b c) g = stage_of memory offset is ∙ goes_on offset new a (has_bytes_is m p memory offset (length d.bytes) b) c w
         by (Some _) (first_ a) g = absurd (let k = g in cc)
         by (Some _) (second a b) g = absurd (let k = g in cc)

@@ -1,5 +1,6 @@
 -- Which places stand in the lists of unknown slots and items.
-use Rattle.base_lists.proofs.Common.{◌≡◌, ℕ, zero, suc, ◌+◌, ◌<◌, ◌≤◌, List, [], ◌∷◌, map, length, Bool, true, false, cond, ◌&&◌, ◌||◌, Some, refl, sym, ap, ap₂, ◌∙◌, inl, inr, arith, nat_eq, nat_le, nat_lt, slice_get, is_some, filter, list_any, cases_eq, cases_lt, cases_order, lt-ltb, le-ltb, le-leb, lt-leb, eq-eqb, ne_eqb, eqb-true, and_parts, list_any-append}
+use Rattle.base_lists.proofs.Common.{◌≡◌, ℕ, zero, suc, ◌+◌, ◌<◌, ◌≤◌, List, [], ◌∷◌, map, length, Bool, true, false, cond, ◌&&◌, ◌||◌, Some, refl, sym, ap, ap₂, ◌∙◌, inl, inr, arith, nat_eq, nat_le, nat_lt, slice_get, is_some, filter, list_any, cases_eq, cases_lt, cases_order, lt-ltb, le-ltb}
+use Rattle.base_lists.proofs.Common.{le-leb, lt-leb, eq-eqb, ne_eqb, eqb-true, and_parts, list_any-append}
 use Rattle.std.specs.Prelude.{unwrap_or}
 use Rattle.std.proofs.lemmas.Map.Views.{any-filter_same}
 use Rattle.base_lists.specs.Options.{◌>>=◌}

@@ -1,5 +1,6 @@
 -- What an active element segment does to the slots of a state (WebAssembly Core 2.0, section 4.5.4).
-use Rattle.base_lists.proofs.Common.{◌≡◌, ℕ, ℤ, suc, ◌+◌, ◌-◌, ◌<◌, ◌≤◌, List, length, Bool, true, false, cond, ◌&&◌, Option, Some, None, refl, sym, ap, ◌∙◌, inl, inr, ◌⊎◌, arith, subst, nat_eq, nat_le, nat_lt, slice_get, is_some, filter, cases_eq, cases_lt, lt-ltb, le-ltb, le-leb, lt-leb, eq-eqb, ne_eqb, same_Some, slice_get_within, slice_get_past, all_there_length, all_there_at, is_some_there, and_false, right_true, set_at, set_other, slice_get_none, slice_get_there, numbers_at, numbers_is, length-numbers}
+use Rattle.base_lists.proofs.Common.{◌≡◌, ℕ, ℤ, suc, ◌+◌, ◌-◌, ◌<◌, ◌≤◌, List, length, Bool, true, false, cond, ◌&&◌, Option, Some, None, refl, sym, ap, ◌∙◌, inl, inr, ◌⊎◌, arith, subst, nat_eq, nat_le, nat_lt, slice_get, is_some, filter, cases_eq, cases_lt, lt-ltb, le-ltb, le-leb, lt-leb, eq-eqb}
+use Rattle.base_lists.proofs.Common.{ne_eqb, same_Some, slice_get_within, slice_get_past, all_there_length, all_there_at, is_some_there, and_false, right_true, set_at, set_other, slice_get_none, slice_get_there, numbers_at, numbers_is, length-numbers}
 use Rattle.std.proofs.Common.{length-append}
 use Rattle.std.specs.Prelude.{unwrap_or}
 use Rattle.base_lists.specs.Options.{◌>>=◌}

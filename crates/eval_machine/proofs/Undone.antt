@@ -1,5 +1,6 @@
 -- What was noted of globals and data segments still says, after each change and each step back, what these were at the mark.
-use Rattle.base_lists.proofs.Common.{◌≡◌, ℕ, zero, suc, ◌<◌, ◌||◌, List, [], ◌∷◌, ◌++◌, length, Bool, true, false, cond, Option, Some, None, IsSome, nat_eq, refl, sym, ap, ap₂, ◌∙◌, inl, inr, subst, true≢false, slice_get, slice_set, same_Some, same_number, cases_eq, eq-eqb, slice_get_within, set_at, set_other, length-set, or-false, or-true, among_append}
+use Rattle.base_lists.proofs.Common.{◌≡◌, ℕ, zero, suc, ◌<◌, ◌||◌, List, [], ◌∷◌, ◌++◌, length, Bool, true, false, cond, Option, Some, None, IsSome, nat_eq, refl, sym, ap, ap₂, ◌∙◌, inl, inr, subst, true≢false, slice_get, slice_set, same_Some, same_number, cases_eq, eq-eqb, slice_get_within, set_at}
+use Rattle.base_lists.proofs.Common.{set_other, length-set, or-false, or-true, among_append}
 use Rattle.std.specs.Option.{option_or}
 use Rattle.base_lists.specs.Members.{is_among}
 use Rattle.eval_machine.specs.declared.undo.UndoLog.{UndoLog}

@@ -88,7 +88,8 @@ module _ (m : Module) (k : Kept) (f : MachineFits m k) (n : ℕ) (pages : Pages)
       opens = refl;
       touched = rw (t.address, pop, length-replicate count (source % 256));
       further = rw (t.address, pop, length-replicate count (source % 256));
-      done = rw (t.address, t.memory, pop, copies_are count (source % 256)) (wrote_form (record { most = t.limits.max; pages = t.limits.min; bytes = pages.now.bytes }) n (body_at (record { kept = k; operands = below; locals = ls }) rest p) (overwrite pages.now.bytes to (replicate count (source % 256))));
+      done = rw (t.address, t.memory, pop, copies_are count (source % 256)) (wrote_form (record { most = t.limits.max; pages = t.limits.min; bytes = pages.now.bytes }) n (body_at (record { kept = k; operands = below; locals = ls }) rest p)
+          (overwrite pages.now.bytes to (replicate count (source % 256))));
     }
 
     pub fill_begins : (stop : Option Stop) (after : Pages) (turns : ℕ) → (stop, turns) ≡ told_of (first_held (write_tests k.turns pages to count)) (k.turns - count / 64) → Wrote stop pages after to (replicate count (source % 256)) →

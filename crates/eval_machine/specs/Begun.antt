@@ -1,5 +1,6 @@
 -- What the parts of an instantiation do (WebAssembly Core 2.0, section 4.5.4).
-use Rattle.std.specs.Prelude.{◌≡◌, ℕ, ◌+◌, ◌-◌, ◌*◌, ◌<◌, ◌≤◌, List, [], ◌∷◌, ◌++◌, map, length, is_some, Bool, true, false, cond, ◌&&◌, ◌||◌, Option, Some, None, Result, Ok, Err, slice_get, slice_set, nat_eq, nat_le, nat_lt}
+use Rattle.std.specs.Prelude.{◌≡◌, ℕ, ◌+◌, ◌-◌, ◌*◌, ◌<◌, ◌≤◌, List, [], ◌∷◌, ◌++◌, map, length, is_some, Bool, true, false, cond, ◌&&◌, ◌||◌, Option, Some, None, Result, Ok, Err, slice_get}
+use Rattle.std.specs.Prelude.{slice_set, nat_eq, nat_le, nat_lt}
 use Rattle.base_lists.specs.Options.{◌>>=◌, all_there}
 use Rattle.base_lists.specs.Places.{numbers, places}
 use Rattle.wasm_tree_spec.specs.Prelude.{Tables, Memories, Globals, Limits, TableType, ConstExpr, ElemSeg, ElemMode, DataSeg, DataMode, Module, globals_of, imported_memories}
@@ -10,7 +11,8 @@ use Rattle.wasm_num.specs.Operations.{wrapped}
 use Rattle.wasm_meaning.specs.Prelude.{RefVal, Global, ref_of, PlacedSegment, global_with, new_elem, segments_in}
 use Rattle.eval_spec.specs.declared.stop.Stop.{Stop}
 use Rattle.eval_spec.specs.declared.stop.Stop.TheVariants as why
-use Rattle.eval_spec.specs.Prelude.{State, Stage, Finished, stop_of, is_imported, too_many_blocks, imported_store, in_order, instantiated, own_inst, reads_global, unknown_at_first, unknown_items, value_in, with_data, with_elem}
+use Rattle.eval_spec.specs.Prelude.{State, Stage, Finished, stop_of, is_imported, too_many_blocks, imported_store, in_order, instantiated, own_inst, reads_global, unknown_at_first, unknown_items}
+use Rattle.eval_spec.specs.Prelude.{value_in, with_data, with_elem}
 use Rattle.eval_machine.specs.declared.value.Value.TheVariants as v
 use Rattle.eval_machine.specs.declared.slots.Slot.{Slot}
 use Rattle.eval_machine.specs.declared.slots.Slot.TheVariants as slot

@@ -8,7 +8,8 @@ use Rattle.index_remap.specs.Prelude.{left_after}
 use Rattle.eval_spec.specs.declared.limits.TheConstants.{MOST_DEPTH}
 use Rattle.eval_spec.specs.declared.stop.Stop.{Stop}
 use Rattle.eval_spec.specs.declared.stop.Stop.TheVariants as why
-use Rattle.eval_spec.specs.Prelude.{State, Stage, Stopped, Test, tried, calls_import, changes_table, further_turns, gives_nothing, grows, opens, test, uses_unknown, writes_too_many, written_after, came_to, own_inst}
+use Rattle.eval_spec.specs.Prelude.{State, Stage, Stopped, Test, tried, calls_import, changes_table, further_turns, gives_nothing, grows, opens, test, uses_unknown, writes_too_many, written_after}
+use Rattle.eval_spec.specs.Prelude.{came_to, own_inst}
 use Rattle.eval_machine.specs.declared.kept.Kept.{Kept}
 use Rattle.eval_machine.specs.declared.registers.Registers.{Registers}
 use Rattle.eval_machine.specs.declared.registers.Flow.TheVariants as flow
@@ -80,7 +81,8 @@ OpensWith params gives body again _ = ⊥
 -- type.
 abbrev pub Opens : Module → BlockType → (body : List Instr) → (again : Bool) → MachineAct → Type 0
 Opens m ty body again (act.Opens b) =
-    (t : FuncType) × (shape_of (own_inst m) ty ≡ Some t) × (b.params.now ≡ t.params) × (b.gives ≡ length t.results) × (b.takes ≡ cond again (length t.params) (length t.results)) × (b.body.now ≡ body) × (b.again ≡ again)
+    (t : FuncType) × (shape_of (own_inst m) ty ≡ Some t) × (b.params.now ≡ t.params) × (b.gives ≡ length t.results) × (b.takes ≡ cond again (length t.params) (length t.results)) ×
+        (b.body.now ≡ body) × (b.again ≡ again)
 Opens m ty body again (act.Leaves left) = (shape_of (own_inst m) ty ≡ None) × (left ≡ flow.Stopped why.Trap)
 Opens m ty body again _ = ⊥
 

@@ -11,9 +11,11 @@ use Rattle.wasm_num.specs.Operations.{W32}
 use Rattle.wasm_valid.specs.declared.kinds.ItemKind.{ItemKind}
 use Rattle.wasm_valid.specs.declared.kinds.ItemKind.TheVariants as kind
 use Rattle.wasm_valid.specs.Prelude.{ItemsHold}
-use Rattle.wasm_meaning.specs.Prelude.{Gives, copies, overwrite, RefVal, Table, Memory, Store, num_of, ref_of, null_of, zero_of, no_bytes, no_items, Bytes, Filled, PlacedSegment, copy_slots, copy_bytes, elem_with, global_with, joined_stores, new_elem, new_func, or_trapped, run_elem_with, run_data_with, segments_in, store_with}
+use Rattle.wasm_meaning.specs.Prelude.{Gives, copies, overwrite, RefVal, Table, Memory, Store, num_of, ref_of, null_of, zero_of, no_bytes, no_items, Bytes, Filled, PlacedSegment, copy_slots, copy_bytes, elem_with, global_with, joined_stores, new_elem, new_func, or_trapped, run_elem_with}
+use Rattle.wasm_meaning.specs.Prelude.{run_data_with, segments_in, store_with}
 use Rattle.eval_spec.specs.declared.stop.Stop.TheVariants as why
-use Rattle.eval_spec.specs.Prelude.{State, Stage, Going, Stopped, Finished, Test, first_held, stopped_or, written_after, copied_slots, data_tests, elem_tests, filled_from, imported_store, in_order, instantiated, own_inst, place_in, state_at_first, value_in, with_data, with_data_mode, with_elem, with_elem_mode, with_segments}
+use Rattle.eval_spec.specs.Prelude.{State, Stage, Going, Stopped, Finished, Test, first_held, stopped_or, written_after, copied_slots, data_tests, elem_tests, filled_from, imported_store, in_order, instantiated, own_inst, place_in, state_at_first, value_in, with_data, with_data_mode, with_elem}
+use Rattle.eval_spec.specs.Prelude.{with_elem_mode, with_segments}
 use Rattle.eval_numbers_proof.specs.Ranges.{BeginsInRange, IsByte, IsNullOrFunction, IsExpressible}
 use Rattle.eval_numbers_proof.proofs.Lists.{there_then, each_of_both, each_copy, each_set, each_overwritten}
 use Rattle.eval_numbers_proof.proofs.Operations.{wrapped_in}

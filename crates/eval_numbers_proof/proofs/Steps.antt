@@ -5,7 +5,10 @@ use Rattle.wasm_tree_spec.specs.Prelude.{ValType, BlockType, Instr, out-Instr, L
 use Rattle.wasm_tree.specs.declared.instr.Instr.TheOpen.{Instr-F}
 use Rattle.wasm_tree.specs.declared.instr.Instr.TheVariants as i
 use Rattle.wasm_num.specs.Operations.{W32}
-use Rattle.wasm_meaning.specs.Prelude.{Outcome, copies, overwrite, slice, split_at, load_width, store_from, stored, RefVal, Val, Func, Code, Own, Placeholder, Table, Memory, Global, Elem, Data, Store, Level, Frame, Entry, Running, Mark, Opening, Waiting, Ended, Growing, Env, Body, Change, Keep, SetGlobal, SetMemory, SetTable, DropElem, DropData, Act, Goes, Calls, AsksGrow, Ends, Next, Ran, EndsCall, typed, type_of, zeros, pop, pop_num, pop_ref, pop_typed, type_of_ref, unary, binary, ref_is_null, select_any, select_typed, with_values, on_values, local_put, global_set, written, load_from, with_memory, writes, store_into, memory_may_grow, grow_memory, pop_three, init_memory, fill_memory, with_table, fits, writes_table, get_slot, set_slot, table_may_grow, grow_table, fill_table, init_table, type_at, func_ref, call_slot, resume, end_level, level_here, branch, shape_of, open_level, open_block, act, changed, enter, exec, frame_of, give, give_levels, no_bytes, no_items, perform, step, step_code, step_levels}
+use Rattle.wasm_meaning.specs.Prelude.{Outcome, copies, overwrite, slice, split_at, load_width, store_from, stored, RefVal, Val, Func, Code, Own, Placeholder, Table, Memory, Global, Elem, Data, Store, Level, Frame, Entry, Running, Mark, Opening, Waiting, Ended, Growing, Env, Body, Change, Keep}
+use Rattle.wasm_meaning.specs.Prelude.{SetGlobal, SetMemory, SetTable, DropElem, DropData, Act, Goes, Calls, AsksGrow, Ends, Next, Ran, EndsCall, typed, type_of, zeros, pop, pop_num, pop_ref, pop_typed, type_of_ref, unary, binary, ref_is_null, select_any, select_typed, with_values, on_values}
+use Rattle.wasm_meaning.specs.Prelude.{local_put, global_set, written, load_from, with_memory, writes, store_into, memory_may_grow, grow_memory, pop_three, init_memory, fill_memory, with_table, fits, writes_table, get_slot, set_slot, table_may_grow, grow_table, fill_table, init_table, type_at}
+use Rattle.wasm_meaning.specs.Prelude.{func_ref, call_slot, resume, end_level, level_here, branch, shape_of, open_level, open_block, act, changed, enter, exec, frame_of, give, give_levels, no_bytes, no_items, perform, step, step_code, step_levels}
 use Rattle.wasm_meaning.specs.Values.{local_get, global_get}
 use Rattle.wasm_meaning.specs.Memory.{memory_init}
 use Rattle.wasm_meaning.specs.Tables.{table_init}

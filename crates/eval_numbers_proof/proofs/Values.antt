@@ -11,7 +11,8 @@ use Rattle.wasm_tree.specs.declared.instr.StoreOp.TheVariants as store
 use Rattle.wasm_num.specs.declared.UnOp.{UnOp}
 use Rattle.wasm_num.specs.declared.BinOp.{BinOp}
 use Rattle.wasm_num.specs.Operations.{Width, W32, W64, bits_of, un_from, bin_from, bin_to, bin_value}
-use Rattle.wasm_meaning.specs.Prelude.{Outcome, Gives, Traps, IllTyped, bind, or_trap, or_ill_typed, RefVal, FuncRef, ExternRef, Val, Num, Ref, typed, type_of, null_of, zero_of, zeros, pop, num_of, ref_of, pop_num, pop_ref, pop_typed, unary, binary, ref_is_null, select_of, select_any, select_typed, pop_three}
+use Rattle.wasm_meaning.specs.Prelude.{Outcome, Gives, Traps, IllTyped, bind, or_trap, or_ill_typed, RefVal, FuncRef, ExternRef, Val, Num, Ref, typed, type_of, null_of, zero_of, zeros, pop, num_of, ref_of, pop_num, pop_ref, pop_typed, unary, binary, ref_is_null, select_of, select_any, select_typed}
+use Rattle.wasm_meaning.specs.Prelude.{pop_three}
 use Rattle.wasm_meaning.specs.Access.{little, little_bytes, load_to, load_width, loaded, stored}
 use Rattle.wasm_meaning.specs.Values.{is_null, second_type}
 use Rattle.wasm_meaning.proofs.Outcomes.{AllOf, ill_typed, stopped, just, cond_all, with_is}

@@ -7,7 +7,8 @@ use Rattle.base_lists.specs.Every.{Every}
 use Rattle.wasm_tree_spec.specs.Prelude.{Space, Memories, Globals, DataSegments, Instr, out-Instr, Module, operands}
 use Rattle.wasm_tree.specs.declared.instr.Instr.TheOpen.{Instr-F}
 use Rattle.wasm_num.specs.Operations.{W32}
-use Rattle.wasm_meaning.specs.Prelude.{Outcome, Gives, Traps, IllTyped, bind, Val, Inst, Func, Code, Own, Placeholder, Level, Store, Change, Frame, Entry, Running, Mark, Opening, Waiting, Ended, Growing, Act, Goes, Calls, AsksGrow, Ends, Next, Ran, EndsCall, pop_num, pop_typed, pop_three, type_at, act, changed, give, give_levels, enter, perform, step, Touched, Nothing, Bytes, Slots, OneGlobal, touched_by, touched_next, touched_levels, touched, Writes, ActWrites, StepsWriteWhatTheyTouch}
+use Rattle.wasm_meaning.specs.Prelude.{Outcome, Gives, Traps, IllTyped, bind, Val, Inst, Func, Code, Own, Placeholder, Level, Store, Change, Frame, Entry, Running, Mark, Opening, Waiting, Ended, Growing, Act, Goes, Calls, AsksGrow, Ends, Next, Ran, EndsCall, pop_num, pop_typed, pop_three, type_at}
+use Rattle.wasm_meaning.specs.Prelude.{act, changed, give, give_levels, enter, perform, step, Touched, Nothing, Bytes, Slots, OneGlobal, touched_by, touched_next, touched_levels, touched, Writes, ActWrites, StepsWriteWhatTheyTouch}
 use Rattle.wasm_meaning.specs.Touched
 use Rattle.wasm_meaning.specs.Touched.{OneElem, OneData, WritesTold}
 use Rattle.wasm_meaning.proofs.Outcomes.{AllOf, ill_typed, just, with_is, with_found, all_at, then_found}

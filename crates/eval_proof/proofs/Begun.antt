@@ -7,7 +7,8 @@ use Rattle.wasm_tree.specs.declared.module.DataMode.TheVariants as data'
 use Rattle.wasm_meaning.specs.Prelude.{Outcome, Gives, Store, Touched, Bytes, Filled, PlacedSegment, segments_in, store_with, joined_stores, run_elem_with, run_data_with}
 use Rattle.eval_spec.specs.declared.stop.Stop.{Stop}
 use Rattle.eval_spec.specs.declared.stop.Stop.TheVariants as why
-use Rattle.eval_spec.specs.Prelude.{State, Stage, Going, Stopped, Finished, tried, is_imported, written_after, writes_too_many, test, reads_global, place_in, copied_slots, own_inst, imported_store, value_in, unknown_at_first, none_written, with_elem_mode, with_elem, with_data_mode, with_data, in_order, with_segments, filled_from, instantiated, after_start, booted, called_in_order}
+use Rattle.eval_spec.specs.Prelude.{State, Stage, Going, Stopped, Finished, tried, is_imported, written_after, writes_too_many, test, reads_global, place_in, copied_slots, own_inst, imported_store, value_in, unknown_at_first, none_written, with_elem_mode, with_elem, with_data_mode, with_data}
+use Rattle.eval_spec.specs.Prelude.{in_order, with_segments, filled_from, instantiated, after_start, booted, called_in_order}
 use Rattle.eval_proof.specs.Budgets.{more_turns, with_turns, HasTurns, EvaluationIsMonotoneInTheBudget}
 use Rattle.eval_proof.proofs.Budgets.{call_same, kept_turns, calls_same}
 

@@ -6,7 +6,8 @@ use Rattle.wasm_meaning.specs.Prelude.{Outcome, Gives, Traps, IllTyped, Val, Fun
 use Rattle.index_remap.specs.Prelude.{left_unknown}
 use Rattle.eval_spec.specs.declared.stop.Stop.{Stop}
 use Rattle.eval_spec.specs.declared.stop.Stop.TheVariants as why
-use Rattle.eval_spec.specs.Prelude.{State, Stage, Going, Stopped, Finished, Test, first_held, stopped_or, is_going, Beginning, beginning, further_turns, frame_turns, written_after, test, tests_at, tests, instruction_tests, host_tests, spent_at, spent, came_to, quiet_step, ComesTo, here, on, host_opened, host_opened_if_there, host_call, run_end, call_end, called_in_order}
+use Rattle.eval_spec.specs.Prelude.{State, Stage, Going, Stopped, Finished, Test, first_held, stopped_or, is_going, Beginning, beginning, further_turns, frame_turns, written_after, test, tests_at, tests, instruction_tests, host_tests, spent_at, spent, came_to, quiet_step, ComesTo, here, on}
+use Rattle.eval_spec.specs.Prelude.{host_opened, host_opened_if_there, host_call, run_end, call_end, called_in_order}
 use Rattle.eval_proof.specs.Budgets.{more_turns, with_turns, HasTurns}
 use Rattle.eval_proof.proofs.Ends.{runs_end, ends_are_reached, quiet_ends_are_unique}
 use Rattle.eval_proof.proofs.Quiet.{none_held}
@@ -124,7 +125,8 @@ module _ (m : Module) (d : ℕ) where
   came_same s (Gives (EndsCall vs t fs)) = refl
 
   quiet_same : (s : State) (es : List Entry) → HasTurns (quiet_step m s es) → quiet_step m (more_turns d s) es ≡ with_turns d (quiet_step m s es)
-  quiet_same s es q = same_tried d (tests m s es) (tests m (more_turns d s) es) (came_to (spent s es) (step s.store es)) (came_to (spent (more_turns d s) es) (step s.store es)) (tests_same s es (beginning es)) (λ n. ap (λ x. came_to x (step s.store es)) (spent_same s es n) ∙ came_same (spent s es) (step s.store es)) q
+  quiet_same s es q = same_tried d (tests m s es) (tests m (more_turns d s) es) (came_to (spent s es) (step s.store es)) (came_to (spent (more_turns d s) es) (step s.store es)) (tests_same s es (beginning es))
+      (λ n. ap (λ x. came_to x (step s.store es)) (spent_same s es n) ∙ came_same (spent s es) (step s.store es)) q
 
   -- ---- a run ----
 

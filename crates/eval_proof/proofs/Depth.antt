@@ -3,7 +3,10 @@ use Rattle.base_lists.proofs.Common.{◌≡◌, ℕ, zero, suc, ◌+◌, ◌≤�
 use Rattle.wasm_tree_spec.specs.Prelude.{Instr, out-Instr, StoreOp, ValType, BlockType}
 use Rattle.wasm_tree.specs.declared.instr.Instr.TheOpen.{Instr-F}
 use Rattle.wasm_num.specs.Operations.{W32}
-use Rattle.wasm_meaning.specs.Prelude.{Outcome, split_at, slice, overwrite, copies, store_from, stored, Val, RefVal, Table, Memory, Global, Store, Func, Code, Own, Placeholder, Level, Frame, Entry, Running, Mark, Opening, Waiting, Ended, Growing, Env, Body, Act, Goes, Calls, AsksGrow, Ends, Next, Ran, typed, pop, pop_num, pop_ref, pop_typed, pushes, on_values, with_values, local_put, global_put, unary, binary, ref_is_null, select_any, select_typed, written, writes, store_into, load_from, grow_memory, memory_may_grow, init_memory, fill_memory, pop_three, with_memory, fits, writes_table, get_slot, set_slot, grow_table, table_may_grow, fill_table, init_table, with_table, call_slot, func_ref, type_at, resume, end_level, branch, level_here, open_level, shape_of, open_block, exec, act, give, give_levels, enter, perform, step}
+use Rattle.wasm_meaning.specs.Prelude.{Outcome, split_at, slice, overwrite, copies, store_from, stored, Val, RefVal, Table, Memory, Global, Store, Func, Code, Own, Placeholder, Level, Frame, Entry, Running, Mark, Opening, Waiting, Ended, Growing, Env, Body, Act, Goes, Calls, AsksGrow, Ends, Next}
+use Rattle.wasm_meaning.specs.Prelude.{Ran, typed, pop, pop_num, pop_ref, pop_typed, pushes, on_values, with_values, local_put, global_put, unary, binary, ref_is_null, select_any, select_typed, written, writes, store_into, load_from, grow_memory, memory_may_grow, init_memory, fill_memory, pop_three}
+use Rattle.wasm_meaning.specs.Prelude.{with_memory, fits, writes_table, get_slot, set_slot, grow_table, table_may_grow, fill_table, init_table, with_table, call_slot, func_ref, type_at, resume, end_level, branch, level_here, open_level, shape_of, open_block, exec, act, give, give_levels, enter}
+use Rattle.wasm_meaning.specs.Prelude.{perform, step}
 use Rattle.wasm_meaning.proofs.Outcomes.{AllOf, ill_typed, stopped, just, cond_all, with_is, with_found, with_within, all_at}
 use Rattle.eval_spec.specs.Prelude.{stack_depth}
 

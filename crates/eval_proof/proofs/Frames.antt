@@ -1,6 +1,7 @@
 -- A step keeps to the code of one instance.
 use Rattle.base_lists.proofs.Common.{◌≡◌, List, [], ◌∷◌, slice_get, refl}
-use Rattle.wasm_meaning.specs.Prelude.{Gives, Val, Inst, Func, Code, Own, Placeholder, Level, Store, Change, Keep, SetGlobal, SetMemory, SetTable, DropElem, DropData, Frame, Entry, Running, Mark, Opening, Waiting, Ended, Growing, Act, Goes, Calls, AsksGrow, Ends, Next, Ran, pop_typed, type_at, act, changed, give, give_levels, enter, perform, step}
+use Rattle.wasm_meaning.specs.Prelude.{Gives, Val, Inst, Func, Code, Own, Placeholder, Level, Store, Change, Keep, SetGlobal, SetMemory, SetTable, DropElem, DropData, Frame, Entry, Running, Mark, Opening, Waiting, Ended, Growing, Act, Goes, Calls, AsksGrow, Ends, Next, Ran, pop_typed, type_at, act}
+use Rattle.wasm_meaning.specs.Prelude.{changed, give, give_levels, enter, perform, step}
 use Rattle.wasm_meaning.proofs.Outcomes.{AllOf, ill_typed, just, with_is, with_found, all_at}
 use Rattle.eval_proof.specs.Known.{FramesOf, IsCodeOf, FuncsOf}
 

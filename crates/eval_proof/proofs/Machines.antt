@@ -7,7 +7,8 @@ use Rattle.wasm_tree.specs.declared.module.ElemMode.TheVariants as elem
 use Rattle.wasm_tree.specs.declared.module.DataMode.TheVariants as data'
 use Rattle.wasm_meaning.specs.Prelude.{Outcome, Gives, Store, Touched, Bytes, Filled, PlacedSegment, segments_in, store_with, joined_stores, run_elem_with, run_data_with, and_then, one_by_one, own_segments}
 use Rattle.eval_spec.specs.declared.stop.Stop.TheVariants as why
-use Rattle.eval_spec.specs.Prelude.{State, Stage, Going, Stopped, Finished, Test, first_held, stopped_or, written_after, place_in, own_inst, imported_store, value_in, unknown_at_first, none_written, elem_tests, data_tests, with_elem_mode, with_elem, with_data_mode, with_data, in_order, with_segments, filled_from}
+use Rattle.eval_spec.specs.Prelude.{State, Stage, Going, Stopped, Finished, Test, first_held, stopped_or, written_after, place_in, own_inst, imported_store, value_in, unknown_at_first, none_written, elem_tests, data_tests, with_elem_mode, with_elem, with_data_mode, with_data, in_order}
+use Rattle.eval_spec.specs.Prelude.{with_segments, filled_from}
 use Rattle.eval_proof.specs.Machines.{InstantiatedAs, InstantiationsAreTheMachines}
 use Rattle.eval_proof.proofs.Quiet.{none_held}
 

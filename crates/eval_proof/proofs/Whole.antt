@@ -6,7 +6,8 @@ use Rattle.wasm_tree.specs.declared.module.ElemMode.TheVariants as elem
 use Rattle.wasm_tree.specs.declared.module.DataMode.TheVariants as data'
 use Rattle.wasm_meaning.specs.Prelude.{PlacedSegment, segments_in}
 use Rattle.eval_spec.specs.declared.limits.TheConstants.{MOST_TURNS}
-use Rattle.eval_spec.specs.Prelude.{State, Stage, Going, Stopped, Finished, Test, stopped_or, is_going, stop_of, host_call, call_end, own_inst, state_at_first, with_elem_mode, with_elem, with_data_mode, with_data, in_order, with_segments, filled_from, instantiated, after_start, booted, called_in_order, evaluated_within, calls_finished}
+use Rattle.eval_spec.specs.Prelude.{State, Stage, Going, Stopped, Finished, Test, stopped_or, is_going, stop_of, host_call, call_end, own_inst, state_at_first, with_elem_mode, with_elem, with_data_mode, with_data, in_order, with_segments, filled_from, instantiated, after_start, booted}
+use Rattle.eval_spec.specs.Prelude.{called_in_order, evaluated_within, calls_finished}
 use Rattle.eval_proof.specs.Laws.{EvaluationsEnd, QuietWhereNothingStops, NothingStopsQuiet, NoneCountedBefore}
 use Rattle.eval_proof.proofs.Ends.{runs_end}
 

@@ -4,7 +4,9 @@ use Rattle.wasm_tree_spec.specs.Prelude.{same_type, ValType, Instr, out-Instr, M
 use Rattle.wasm_tree.specs.declared.instr.Instr.TheOpen.{Instr-F}
 use Rattle.wasm_num.specs.Operations.{W32}
 use Rattle.wasm_valid.specs.Prelude.{ValidWhereItemsHold}
-use Rattle.wasm_meaning.specs.Prelude.{Outcome, Gives, Traps, IllTyped, store_from, Val, Func, Code, Own, Placeholder, Global, Store, Level, Frame, Entry, Running, Mark, Opening, Waiting, Ended, Growing, Env, Body, Change, Keep, SetGlobal, SetMemory, SetTable, DropElem, DropData, Act, Goes, Calls, AsksGrow, Ends, Next, Ran, CallsOwn, WaitsGrowth, CallsPlaceholder, EndsCall, global_set, pop, pop_num, pop_ref, pop_typed, type_of, typed, pop_three, type_at, act, changed, enter, exec, give, give_levels, perform, step, step_code, step_levels, Touched, Bytes, Slots, OneGlobal, StepsWriteWhatTheyTouch, Writes, a_global, touched_by, touched_levels, touched_next}
+use Rattle.wasm_meaning.specs.Prelude.{Outcome, Gives, Traps, IllTyped, store_from, Val, Func, Code, Own, Placeholder, Global, Store, Level, Frame, Entry, Running, Mark, Opening, Waiting, Ended, Growing, Env, Body, Change, Keep, SetGlobal, SetMemory, SetTable, DropElem, DropData, Act, Goes, Calls}
+use Rattle.wasm_meaning.specs.Prelude.{AsksGrow, Ends, Next, Ran, CallsOwn, WaitsGrowth, CallsPlaceholder, EndsCall, global_set, pop, pop_num, pop_ref, pop_typed, type_of, typed, pop_three, type_at, act, changed, enter, exec, give, give_levels, perform, step, step_code, step_levels, Touched, Bytes}
+use Rattle.wasm_meaning.specs.Prelude.{Slots, OneGlobal, StepsWriteWhatTheyTouch, Writes, a_global, touched_by, touched_levels, touched_next}
 use Rattle.wasm_meaning.specs.Touched.{range_touches}
 use Rattle.wasm_meaning.proofs.Outcomes.{AllOf, ill_typed, just, all_at, cond_all, with_found, with_is}
 use Rattle.eval_spec.specs.Prelude.{State, Stage, Going, Stopped, Finished, Test, first_held, stopped_or, frame_turns, host_tests, tests, after_steps, call_end, came_to, host_call, host_opened_if_there, quiet_step, spent, weight, called_in_order, after_start, instantiated}

@@ -1,5 +1,6 @@
 -- The store after the instantiation of a module with valid items is related to itself.
-use Rattle.base_lists.proofs.Common.{◌≡◌, ℕ, ◌*◌, ◌<◌, arith, List, [], ◌∷◌, length, map, Bool, true, false, Option, Some, None, slice_get, slice_set, refl, subst, nat_lt, cons_option, filter_map, length-append, length-map, length-set, same_Some, all_there_length, numbers_is, append_rel, copies_rel, get_rel, overwrite_rel, put_rel, all_rel, maps_rel, opt_self, self_rel}
+use Rattle.base_lists.proofs.Common.{◌≡◌, ℕ, ◌*◌, ◌<◌, arith, List, [], ◌∷◌, length, map, Bool, true, false, Option, Some, None, slice_get, slice_set, refl, subst, nat_lt, cons_option, filter_map, length-append, length-map, length-set, same_Some, all_there_length, numbers_is, append_rel, copies_rel}
+use Rattle.base_lists.proofs.Common.{get_rel, overwrite_rel, put_rel, all_rel, maps_rel, opt_self, self_rel}
 use Rattle.base_lists.specs.Options.{◌>>=◌, all_there}
 use Rattle.wasm_tree_spec.specs.Prelude.{Functions, GlobalType, Limits, TableType, ConstExpr, DataMode, DataSeg, ElemMode, ElemSeg, GlobalDef, Import, Module, func_of, imported_funcs, imported_tables, imported_memories, imported_globals, memories_of}
 use Rattle.wasm_tree.specs.declared.module.ConstExpr.TheVariants as const
@@ -8,9 +9,11 @@ use Rattle.wasm_tree.specs.declared.module.ElemMode.TheVariants as elem
 use Rattle.wasm_tree.specs.declared.module.Func.{Func as FuncDef}
 use Rattle.wasm_num.specs.Operations.{W32}
 use Rattle.wasm_valid.specs.Prelude.{ItemsHold}
-use Rattle.wasm_meaning.specs.Prelude.{Gives, copies, overwrite, RefVal, Val, Num, Ref, Func, Table, Memory, Global, Elem, Data, Store, num_of, ref_of, null_of, zero_of, no_bytes, no_items, Filled, PlacedSegment, copy_slots, copy_bytes, elem_with, global_with, joined_stores, new_elem, new_func, or_trapped, run_elem_with, run_data_with, segments_in, Bytes}
+use Rattle.wasm_meaning.specs.Prelude.{Gives, copies, overwrite, RefVal, Val, Num, Ref, Func, Table, Memory, Global, Elem, Data, Store, num_of, ref_of, null_of, zero_of, no_bytes, no_items, Filled, PlacedSegment, copy_slots, copy_bytes, elem_with, global_with, joined_stores, new_elem, new_func}
+use Rattle.wasm_meaning.specs.Prelude.{or_trapped, run_elem_with, run_data_with, segments_in, Bytes}
 use Rattle.index_remap.specs.Prelude.{ListRel, nil, cons, OptRel, none, some, RefRel, ValRel, number, reference, FuncRel, own, defined, TableRel, GlobalRel, ElemRel, func, CodeIsRelatedToItself}
-use Rattle.eval_spec.specs.Prelude.{State, Stage, Going, Stopped, Finished, Test, first_held, stopped_or, written_after, copied_slots, data_tests, elem_tests, place_in, filled_from, imported_func, imported_store, in_order, instantiated, own_inst, state_at_first, value_in, with_data, with_data_mode, with_elem, with_elem_mode, with_segments}
+use Rattle.eval_spec.specs.Prelude.{State, Stage, Going, Stopped, Finished, Test, first_held, stopped_or, written_after, copied_slots, data_tests, elem_tests, place_in, filled_from, imported_func, imported_store, in_order, instantiated, own_inst, state_at_first, value_in, with_data, with_data_mode}
+use Rattle.eval_spec.specs.Prelude.{with_elem, with_elem_mode, with_segments}
 use Rattle.eval_references_proof.specs.References.{GlobalsAreTyped}
 use Rattle.eval_references_proof.proofs.Imports.{imports_are_typed}
 use Rattle.eval_references_proof.proofs.Typed.{first_typed}
@@ -60,7 +63,8 @@ module _ (m : Module) (coded : CodeIsRelatedToItself) where
       let k = numbers_is (count_in m Functions) f a i in subst (λ w. ValRel (R m) w w) (same_Some _ w g) (reference (func (some (to_itself m Functions a (subst (λ x. x < count_in m Functions) k.1 k.0)))))) v e
   value_itself (const.Global x) v e = then_holds (λ w. ValRel (R m) w w) (slice_get (own_inst m).globals x) _ (λ a i w g.
       then_holds (λ w. ValRel (R m) w w) (slice_get (imported_store m).globals a) _ (λ z j u q.
-      subst (λ w. ValRel (R m) w w) (same_Some _ u q) (opt_self {P = λ g h. ValRel (R m) g.value h.value} (get_rel (maps_rel (λ (t : GlobalType). record { ty = t; value = zero_of t.ty }) (λ (t : GlobalType). record { ty = t; value = zero_of t.ty }) (self_rel (imported_globals m.imports) (λ t. zero_itself m t.ty))) a) j)) w g) v e
+      subst (λ w. ValRel (R m) w w) (same_Some _ u q) (opt_self {P = λ g h. ValRel (R m) g.value h.value} (get_rel
+          (maps_rel (λ (t : GlobalType). record { ty = t; value = zero_of t.ty }) (λ (t : GlobalType). record { ty = t; value = zero_of t.ty }) (self_rel (imported_globals m.imports) (λ t. zero_itself m t.ty))) a) j)) w g) v e
 
   -- ---- what a module defines ----
 
@@ -116,9 +120,12 @@ module _ (m : Module) (coded : CodeIsRelatedToItself) where
           mems = self_rel _ (λ x. refl);
           datas = self_rel _ (λ x. refl);
           many_funcs = omega (arith, imports, defs, length-append (imported_funcs m.imports) (map (λ f. f.ty) m.funcs), length-map m.funcs (λ f. f.ty), length-append (filter_map (imported_func m) m.imports) fs);
-          many_tables = omega (arith, length-append (imported_tables m.imports) m.tables, length-append (imported_store m).tables (map (λ t. record { ty = t.ty; most = t.limits.max; slots = copies t.limits.min (null_of t.ty) }) m.tables), length-map {B = Table} (imported_tables m.imports) (λ (t : TableType). record { ty = t.ty; most = t.limits.max; slots = [] }), length-map {B = Table} m.tables (λ (t : TableType). record { ty = t.ty; most = t.limits.max; slots = copies t.limits.min (null_of t.ty) }));
-          many_mems = omega (arith, length-append (imported_memories m.imports) m.mems, length-append (imported_store m).mems (map (λ l. record { most = l.max; pages = l.min; bytes = copies (65536 * l.min) 0 }) m.mems), length-map {B = Memory} (imported_memories m.imports) (λ (l : Limits). record { most = l.max; pages = 0; bytes = [] }), length-map {B = Memory} m.mems (λ (l : Limits). record { most = l.max; pages = l.min; bytes = copies (65536 * l.min) 0 }));
-          many_globals = omega (arith, globals, length-append (imported_globals m.imports) (map (λ g. g.ty) m.globals), length-map m.globals (λ g. g.ty), length-append (imported_store m).globals gs, length-map {B = Global} (imported_globals m.imports) (λ (t : GlobalType). record { ty = t; value = zero_of t.ty }));
+          many_tables = omega (arith, length-append (imported_tables m.imports) m.tables, length-append (imported_store m).tables (map (λ t. record { ty = t.ty; most = t.limits.max; slots = copies t.limits.min (null_of t.ty) }) m.tables),
+              length-map {B = Table} (imported_tables m.imports) (λ (t : TableType). record { ty = t.ty; most = t.limits.max; slots = [] }), length-map {B = Table} m.tables (λ (t : TableType). record { ty = t.ty; most = t.limits.max; slots = copies t.limits.min (null_of t.ty) }));
+          many_mems = omega (arith, length-append (imported_memories m.imports) m.mems, length-append (imported_store m).mems (map (λ l. record { most = l.max; pages = l.min; bytes = copies (65536 * l.min) 0 }) m.mems),
+              length-map {B = Memory} (imported_memories m.imports) (λ (l : Limits). record { most = l.max; pages = 0; bytes = [] }), length-map {B = Memory} m.mems (λ (l : Limits). record { most = l.max; pages = l.min; bytes = copies (65536 * l.min) 0 }));
+          many_globals = omega (arith, globals, length-append (imported_globals m.imports) (map (λ g. g.ty) m.globals), length-map m.globals (λ g. g.ty), length-append (imported_store m).globals gs,
+              length-map {B = Global} (imported_globals m.imports) (λ (t : GlobalType). record { ty = t; value = zero_of t.ty }));
           many_elems = omega (arith, elems);
           many_datas = omega (arith, length-map {B = Data} m.datas (λ (d : DataSeg). record { bytes = d.bytes; dropped = false }));
           few_funcs = omega (arith, imports, defs, length-append (imported_funcs m.imports) (map (λ f. f.ty) m.funcs), length-map m.funcs (λ f. f.ty), length-append (filter_map (imported_func m) m.imports) fs);
@@ -200,11 +207,13 @@ module _ (m : Module) (coded : CodeIsRelatedToItself) where
   with_elem_stored : (s : State) (task : PlacedSegment ElemSeg) (mode : ElemMode) → IsMade m s.store → Stored m (with_elem_mode m s task mode)
   with_elem_stored s task elem.Passive h = h
   with_elem_stored s task elem.Declarative h = h
-  with_elem_stored s task (elem.Active x offset) h = tried_stored (first_held (elem_tests m s x offset (run_elem_with (value_in m) s.store task task.segment.mode))) (Finished (record s { store = (run_elem_with (value_in m) s.store task task.segment.mode).store; unknown = copied_slots s task.address x (place_in m offset) (length task.segment.items) })) (elem_stored s task task.segment.mode h)
+  with_elem_stored s task (elem.Active x offset) h = tried_stored (first_held (elem_tests m s x offset (run_elem_with (value_in m) s.store task task.segment.mode)))
+      (Finished (record s { store = (run_elem_with (value_in m) s.store task task.segment.mode).store; unknown = copied_slots s task.address x (place_in m offset) (length task.segment.items) })) (elem_stored s task task.segment.mode h)
 
   with_data_stored : (s : State) (task : PlacedSegment DataSeg) (mode : DataMode) → IsMade m s.store → Stored m (with_data_mode m s task mode)
   with_data_stored s task data'.Passive h = h
-  with_data_stored s task (data'.Active x offset) h = tried_stored (first_held (data_tests m s x offset (run_data_with (value_in m) s.store task task.segment.mode) (Gives (Bytes x (place_in m offset) (length task.segment.bytes))))) (Finished (record s { store = (run_data_with (value_in m) s.store task task.segment.mode).store; written = written_after s.written (Gives (Bytes x (place_in m offset) (length task.segment.bytes))) })) (data_stored s task task.segment.mode h)
+  with_data_stored s task (data'.Active x offset) h = tried_stored (first_held (data_tests m s x offset (run_data_with (value_in m) s.store task task.segment.mode) (Gives (Bytes x (place_in m offset) (length task.segment.bytes)))))
+      (Finished (record s { store = (run_data_with (value_in m) s.store task task.segment.mode).store; written = written_after s.written (Gives (Bytes x (place_in m offset) (length task.segment.bytes))) })) (data_stored s task task.segment.mode h)
 
   in_order_stored : {A : Type 0} (f : State → A → Stage) → ((s : State) (x : A) → IsMade m s.store → Stored m (f s x)) → (t : Stage) (xs : List A) → Stored m t → Stored m (in_order f t xs)
   in_order_stored f k (Finished s) [] h = h

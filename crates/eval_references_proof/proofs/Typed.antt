@@ -1,5 +1,6 @@
 -- The globals of a module with valid items have values of their types at first.
-use Rattle.base_lists.proofs.Common.{◌≡◌, ◌∙◌, ℕ, ◌+◌, ◌-◌, ◌<◌, arith, List, ◌++◌, length, map, Bool, true, false, not, ◌&&◌, Option, Some, None, slice_get, refl, sym, ap, subst, inl, inr, nat_lt, cases_lt, and_parts, ltb-true, length-map, same_Some, slice_get_within, all_there_at, all_there_length, numbers_is, append_left, append_right, map_at, map_from, slice_get_there}
+use Rattle.base_lists.proofs.Common.{◌≡◌, ◌∙◌, ℕ, ◌+◌, ◌-◌, ◌<◌, arith, List, ◌++◌, length, map, Bool, true, false, not, ◌&&◌, Option, Some, None, slice_get, refl, sym, ap, subst, inl, inr, nat_lt, cases_lt, and_parts, ltb-true, length-map, same_Some, slice_get_within, all_there_at}
+use Rattle.base_lists.proofs.Common.{all_there_length, numbers_is, append_left, append_right, map_at, map_from, slice_get_there}
 use Rattle.base_lists.specs.Options.{◌>>=◌, all_there}
 use Rattle.wasm_tree_spec.specs.Prelude.{same_type, GlobalType, ValType, ConstExpr, GlobalDef, Module, funcs_of, globals_of, imported_globals}
 use Rattle.wasm_tree.specs.declared.types.RefType.TheVariants as reft

@@ -52,7 +52,8 @@ fn declared_tree(
     requires valid { IsValid from }
     requires bounded { IsBounded from }
     ensures tree { IfOk result (λ tree. tree ≡ spec.declared_snapshot from (state_in from machine.now) evaluated.now kept.now) }
-    ensures fault { IfErr result (λ f. (f ≡ OutOfMemory) ⊎ ((w : _) × (f ≡ OverLimit w) × (counts.over_limit (spec.declared_snapshot from (state_in from machine.now) evaluated.now kept.now) ≡ Some w))) }
+    ensures fault { IfErr result (λ f. (f ≡ OutOfMemory) ⊎ ((w : _) × (f ≡ OverLimit w) ×
+        (counts.over_limit (spec.declared_snapshot from (state_in from machine.now) evaluated.now kept.now) ≡ Some w))) }
 {
     let mut tree = tree(alloc, from, machine, evaluated, kept)?;
     if let Some(which) = first_counts(&tree) {

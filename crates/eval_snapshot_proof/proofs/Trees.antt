@@ -1,5 +1,6 @@
 -- Each item of a snapshot holds, but for references.
-use Rattle.base_lists.proofs.Common.{◌≡◌, ◌∙◌, ap, ap₂, sym, subst, refl, ℕ, zero, suc, ◌+◌, ◌<◌, ◌≤◌, List, [], ◌∷◌, ◌++◌, map, length, take, replicate, Option, Some, None, Bool, true, false, not, ◌&&◌, ◌||◌, cond, slice_get, ⊎_elim, ◌⊎◌, inl, inr, true≢false, arith, append_assoc, Contains, nat_eq, nat_lt, nat_le, list_any, cons_option, lt-ltb, ltb-true, length-append, map-append, any_passes_from_place, slice_get_within, first_at, append_from, map_from, replicate_at, slice_get_there, only_true}
+use Rattle.base_lists.proofs.Common.{◌≡◌, ◌∙◌, ap, ap₂, sym, subst, refl, ℕ, zero, suc, ◌+◌, ◌<◌, ◌≤◌, List, [], ◌∷◌, ◌++◌, map, length, take, replicate, Option, Some, None, Bool, true, false, not, ◌&&◌, ◌||◌, cond, slice_get, ⊎_elim, ◌⊎◌, inl, inr, true≢false, arith, append_assoc, Contains, nat_eq}
+use Rattle.base_lists.proofs.Common.{nat_lt, nat_le, list_any, cons_option, lt-ltb, ltb-true, length-append, map-append, any_passes_from_place, slice_get_within, first_at, append_from, map_from, replicate_at, slice_get_there, only_true}
 use Rattle.std.proofs.Common.{filter_map}
 use Rattle.std.specs.Prelude.{unwrap_or}
 use Rattle.base_lists.specs.Options.{◌>>=◌}

@@ -1,7 +1,8 @@
 -- Code that stays well typed where there are more functions, others may be named, and there are other data segments, as many as before if it names one.
 use Rattle.base_lists.proofs.Common.{◌≡◌, ◌∙◌, ap, refl, ℕ, Bool, true, false, not, ◌&&◌, ◌||◌, List, [], ◌∷◌, ◌++◌, Some, slice_get, arith, nat_lt, nat_le, list_all, list_any, append_at_left, and_from, left_either, right_either, keeps_only, keeps_then, and_then_is, only_true, Option, None}
 use Rattle.base_lists.specs.Every.{Every}
-use Rattle.wasm_tree_spec.specs.Prelude.{Operand, ValType, FuncType, Instr, Row_of-Instr, end_of-Instr, more_of-Instr, Block', Loop', If', Call, RefFunc, MemoryInit, DataDrop, names_data, uses_data, uses_data_in, Layers, RowLayers, ListLayers, all_operands_pass, held, operands, operands_of, operands_pass, AnyInside, PassesInside, PassesLayerByLayer}
+use Rattle.wasm_tree_spec.specs.Prelude.{Operand, ValType, FuncType, Instr, Row_of-Instr, end_of-Instr, more_of-Instr, Block', Loop', If', Call, RefFunc, MemoryInit, DataDrop, names_data, uses_data, uses_data_in, Layers, RowLayers, ListLayers, all_operands_pass, held, operands, operands_of}
+use Rattle.wasm_tree_spec.specs.Prelude.{operands_pass, AnyInside, PassesInside, PassesLayerByLayer}
 use Rattle.wasm_tree.specs.declared.instr.Instr.{out-Instr}
 use Rattle.wasm_tree.specs.declared.instr.Instr.TheOpen.{Instr-F}
 use Rattle.wasm_tree.proofs.OperandLaws.{by_held}

@@ -7,7 +7,8 @@ use Rattle.eval_snapshot_spec.specs.Snapshot.{global_left, globals_left, segment
 
 -- Each global of a snapshot is what is left of the global at its place, counted from `n` on.
 abbrev pub EachGlobalIsLeft : Type 0
-EachGlobalIsLeft = (m : Module) (s : State) (n : ℕ) (gs : List GlobalDef) (i : ℕ) (h : GlobalDef) → slice_get (globals_left m s n gs) i ≡ Some h → (g : GlobalDef) × (slice_get gs i ≡ Some g) × (h ≡ global_left m s (n + i) g)
+EachGlobalIsLeft = (m : Module) (s : State) (n : ℕ) (gs : List GlobalDef) (i : ℕ) (h : GlobalDef) → slice_get (globals_left m s n gs) i ≡ Some h → (g : GlobalDef) × (slice_get gs i ≡ Some g) ×
+    (h ≡ global_left m s (n + i) g)
 
 -- What is left of a list of data segments is a list of the same length.
 abbrev pub AsManySegmentsAreLeft : Type 0

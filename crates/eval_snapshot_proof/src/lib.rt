@@ -23,7 +23,8 @@ use wasm_valid::valid_where_items_hold;
 pub fn snapshots_are_valid()
     ensures valid { (m : Module) (s : State) (evaluated kept : List Text) → IsValid m → Suits m s → HasEmptyTypeFor m evaluated → IsValid (snapshot m s evaluated kept) }
     ensures single { (m : Module) (s : State) (evaluated kept : List Text) → IsSingle m → IsSingle (snapshot m s evaluated kept) }
-    ensures bounded { (m : Module) (s : State) (evaluated kept : List Text) → IsValid m → Suits m s → HasEmptyTypeFor m evaluated → IsBounded m → too_much m s evaluated kept ≡ None → IsBounded (snapshot m s evaluated kept) }
+    ensures bounded { (m : Module) (s : State) (evaluated kept : List Text) → IsValid m → Suits m s → HasEmptyTypeFor m evaluated → IsBounded m → too_much m s evaluated kept ≡ None →
+        IsBounded (snapshot m s evaluated kept) }
 {
     operands_pass_layer_by_layer();
     valid_where_items_hold();

@@ -12,7 +12,8 @@ use Rattle.eval_snapshot_spec.specs.Contents.{contents, stretch_segment}
 use Rattle.eval_snapshot_spec.specs.Evaluated.{evaluated_tree}
 use Rattle.eval_snapshot_spec.proofs.Modules.{a, b, c, export, mutable_i32, global, at, passive}
 use Rattle.eval_snapshot_spec.proofs.ContentsRows.{zeros, they_join, they_part, negative}
-use Rattle.eval_snapshot_spec.proofs.Rows.{three, first_evaluated, first_kept, first_kept_left, trapping, starting, not_even_started, start_made, counting, values_left, values_left_left, named, declared_again, segments, old_ones, old_ones_left, unnamed, left_out, linked, ctors, linked_evaluated, linked_evaluated_left}
+use Rattle.eval_snapshot_spec.proofs.Rows.{three, first_evaluated, first_kept, first_kept_left, trapping, starting, not_even_started, start_made, counting, values_left, values_left_left, named, declared_again, segments, old_ones, old_ones_left, unnamed, left_out, linked, ctors, linked_evaluated}
+use Rattle.eval_snapshot_spec.proofs.Rows.{linked_evaluated_left}
 
 -- the segments have these sizes
 abbrev has_sizes : List ℕ → Module → Bool

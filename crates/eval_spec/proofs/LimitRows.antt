@@ -170,7 +170,8 @@ no_turn_for_an_end = refl
 
 -- a byte that is copied to a place
 abbrev copied_to : ℕ → Option Stop
-copied_to place = stop_of (with_data (with_page (does [])) (record (state (false ∷ replicate 16384 true)) { store = record (state []).store { datas = record { bytes = 5 ∷ []; dropped = false } ∷ [] } }) (record { part = 0; inst = own_inst (with_page (does [])); address = 0; segment = data_at (const.I32 (pos place)) (5 ∷ []) }))
+copied_to place = stop_of (with_data (with_page (does [])) (record (state (false ∷ replicate 16384 true)) { store = record (state []).store { datas = record { bytes = 5 ∷ []; dropped = false } ∷ [] } })
+    (record { part = 0; inst = own_inst (with_page (does [])); address = 0; segment = data_at (const.I32 (pos place)) (5 ∷ []) }))
 
 past_the_end_first : copied_to 128 ≡ Some why.Trap
 unfolding wrapped

@@ -4,12 +4,14 @@ use Rattle.std.specs.Prelude.{ℕ, ◌+◌, ◌-◌, ◌*◌, List, [], ◌∷�
 use Rattle.std.specs.List.{filter, filter_map}
 use Rattle.base_lists.specs.Options.{◌>>=◌}
 use Rattle.base_lists.specs.Places.{numbers, places}
-use Rattle.wasm_tree_spec.specs.Prelude.{Tables, Memories, Limits, Import, ConstExpr, ElemSeg, ElemMode, DataSeg, DataMode, Module, func_of, imported_tables, imported_memories, imported_globals, funcs_of, tables_of, memories_of, globals_of}
+use Rattle.wasm_tree_spec.specs.Prelude.{Tables, Memories, Limits, Import, ConstExpr, ElemSeg, ElemMode, DataSeg, DataMode, Module, func_of, imported_tables, imported_memories, imported_globals}
+use Rattle.wasm_tree_spec.specs.Prelude.{funcs_of, tables_of, memories_of, globals_of}
 use Rattle.wasm_tree.specs.declared.module.ConstExpr.TheVariants as const
 use Rattle.wasm_tree.specs.declared.module.ElemMode.TheVariants as elem
 use Rattle.wasm_tree.specs.declared.module.DataMode.TheVariants as data'
 use Rattle.wasm_num.specs.Operations.{W32}
-use Rattle.wasm_meaning.specs.Prelude.{Outcome, Gives, Val, Inst, Func, Own, Table, Store, zero_of, num_of, Touched, Bytes, pair_of, Filled, PlacedSegment, segments_in, const_value, store_with, joined_stores, run_elem_with, run_data_with}
+use Rattle.wasm_meaning.specs.Prelude.{Outcome, Gives, Val, Inst, Func, Own, Table, Store, zero_of, num_of, Touched, Bytes, pair_of, Filled, PlacedSegment, segments_in, const_value, store_with}
+use Rattle.wasm_meaning.specs.Prelude.{joined_stores, run_elem_with, run_data_with}
 use Rattle.index_remap.specs.Prelude.{Unknowns, is_place_among}
 use Rattle.block_pool.specs.Pages.{blank}
 use Rattle.eval_spec.specs.declared.stop.Stop.TheVariants as why

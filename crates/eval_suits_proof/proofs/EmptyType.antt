@@ -1,5 +1,6 @@
 -- A module of which a function was called has a type that takes and gives nothing.
-use Rattle.base_lists.proofs.Common.{◌≡◌, ◌∙◌, ℕ, ◌-◌, arith, List, [], ◌∷◌, ◌++◌, Bool, true, false, not, cond, Option, Some, None, is_some, slice_get, refl, sym, ap, subst, inl, inr, nat_lt, cons_option, filter_map, same_Some, slice_get_within, chosen_from, all_there_at, all_there_length, and_then_is, append_from, slice_get_there}
+use Rattle.base_lists.proofs.Common.{◌≡◌, ◌∙◌, ℕ, ◌-◌, arith, List, [], ◌∷◌, ◌++◌, Bool, true, false, not, cond, Option, Some, None, is_some, slice_get, refl, sym, ap, subst, inl, inr, nat_lt, cons_option, filter_map, same_Some, slice_get_within, chosen_from, all_there_at, all_there_length}
+use Rattle.base_lists.proofs.Common.{and_then_is, append_from, slice_get_there}
 use Rattle.base_lists.specs.Options.{all_there}
 use Rattle.wasm_tree.specs.declared.module.Func.{Func as FuncDef}
 use Rattle.wasm_tree_spec.specs.Prelude.{Import, Module, func_of}

@@ -8,7 +8,8 @@ use Rattle.wasm_num.specs.Operations.{W32}
 use Rattle.wasm_meaning.specs.Control.{call, call_indirect, finish, branch_if, branch_table, open_loop, open_if}
 use Rattle.wasm_meaning.proofs.Outcomes.{then_given, then_found}
 use Rattle.index_remap.specs.Related
-use Rattle.index_remap.specs.Prelude.{Pairing, OptRel, none, some, ResRel, done, trap, wrong, ListRel, nil, cons, RefRel, func, extern, ValRel, AreNamesRelated, BlockRel, empty, value, indexed, OpRel, CodeRel, end, then, instead, TableRel, LevelRel, BodyRel, keep, goes, calls, ends, Unknowns, StoreRelOff, read_by, ReadsKnown, known, ActOff}
+use Rattle.index_remap.specs.Prelude.{Pairing, OptRel, none, some, ResRel, done, trap, wrong, ListRel, nil, cons, RefRel, func, extern, ValRel, AreNamesRelated, BlockRel, empty, value, indexed, OpRel, CodeRel, end, then, instead, TableRel, LevelRel, BodyRel, keep, goes, calls, ends, Unknowns}
+use Rattle.index_remap.specs.Prelude.{StoreRelOff, read_by, ReadsKnown, known, ActOff}
 use Rattle.index_remap.specs.Related.{SameType}
 use Rattle.index_remap.proofs.Rel.{bind_rel, or_trap_rel, bind_found, bind_is}
 use Rattle.base_lists.proofs.Related.{onto_rel, past_rel, split_rel}
@@ -30,7 +31,8 @@ module _ (R : Pairing) (off : Unknowns) (ev ew : Env) (st : StoreRelOff R off ev
   func_ref_rel (func p) = or_trap_rel p
   func_ref_rel extern = wrong
 
-  pub call_indirect_rel : {h k : Body} (s t n m : ℕ) → BodyRel R ev.inst ew.inst h k → SameType ev.inst ew.inst s t → AreNamesRelated R.of Tables ev.inst.tables ew.inst.tables n m → ReadsKnown off (read_by (Instr-F.CallIndirect s n) ev h.values) → ResRel (ActOff R off ev.inst ew.inst) (call_indirect ev h s n) (call_indirect ew k t m)
+  pub call_indirect_rel : {h k : Body} (s t n m : ℕ) → BodyRel R ev.inst ew.inst h k → SameType ev.inst ew.inst s t → AreNamesRelated R.of Tables ev.inst.tables ew.inst.tables n m → ReadsKnown off (read_by (Instr-F.CallIndirect s n) ev h.values) →
+      ResRel (ActOff R off ev.inst ew.inst) (call_indirect ev h s n) (call_indirect ew k t m)
   call_indirect_rel s t n m r e p reads =
       bind_table R off ev ew st n m _ _ r p (λ a _ _ _ is _ table. bind_num_is R W32 _ _ r.values (λ i _ _ top v.
       bind_rel (or_trap_rel (table.slots.each i (slot_known R off ev ew st _ a i reads (then_found _ is ∙ then_given _ top)))) (λ _ _ x. bind_rel (func_ref_rel x) (λ _ _ q. bind_is (same_there (st.types q)) (λ f _. bind_is e (λ u _.
@@ -72,7 +74,8 @@ module _ (R : Pairing) (off : Unknowns) (ev ew : Env) (st : StoreRelOff R off ev
   shape_rel value = refl
   shape_rel (indexed e) = e
 
-  open_level_rel : {h k : Body} {vs ws : List Val} {c d back again : List Instr} (params : List ValType) (gives takes : ℕ) → BodyRel R ev.inst ew.inst h k → ListRel (ValRel R) vs ws → CodeRel R ev.inst ew.inst c d → CodeRel R ev.inst ew.inst back again → ResRel (ActOff R off ev.inst ew.inst) (open_level h vs params gives takes c back) (open_level k ws params gives takes d again)
+  open_level_rel : {h k : Body} {vs ws : List Val} {c d back again : List Instr} (params : List ValType) (gives takes : ℕ) → BodyRel R ev.inst ew.inst h k → ListRel (ValRel R) vs ws → CodeRel R ev.inst ew.inst c d → CodeRel R ev.inst ew.inst back again →
+      ResRel (ActOff R off ev.inst ew.inst) (open_level h vs params gives takes c back) (open_level k ws params gives takes d again)
   open_level_rel params gives takes r v c b =
       bind_rel (pop_typed_rel R params v) (λ _ _ p. go_rel R off ev ew st (record { locals = r.locals; values = onto_rel p.first nil; rest = c; gives = refl; takes = refl; back = b; outer = cons (level_rel (values_rel R off ev ew st r p.second)) r.outer }))
 

@@ -2,9 +2,11 @@
 use Rattle.base_lists.proofs.Common.{◌≡◌, ℕ, zero, suc, ◌+◌, ◌≤◌, false, List, [], ◌∷◌, length, None, Some, refl, sym, ap, subst, ◌∙◌, arith, length_rel}
 use Rattle.wasm_tree_spec.specs.Prelude.{ValType}
 use Rattle.base_simulation.specs.Machines.{events_of, state_after}
-use Rattle.wasm_meaning.specs.Prelude.{Outcome, Gives, Traps, IllTyped, bind, onto, split_at, Val, Inst, Store, Level, Frame, Entry, Running, Mark, Opening, Waiting, Ended, Growing, Caller, Host, Starter, Act, Ends, Next, Ran, CallsOwn, WaitsGrowth, CallsPlaceholder, EndsCall, pop_typed, act, give, give_levels, perform, step, to_mark, Run, Out, Steps, trapped_to, made, transition_at, run_after, transition, tick}
+use Rattle.wasm_meaning.specs.Prelude.{Outcome, Gives, Traps, IllTyped, bind, onto, split_at, Val, Inst, Store, Level, Frame, Entry, Running, Mark, Opening, Waiting, Ended, Growing, Caller, Host, Starter, Act, Ends, Next, Ran, CallsOwn, WaitsGrowth, CallsPlaceholder, EndsCall, pop_typed, act, give}
+use Rattle.wasm_meaning.specs.Prelude.{give_levels, perform, step, to_mark, Run, Out, Steps, trapped_to, made, transition_at, run_after, transition, tick}
 use Rattle.wasm_meaning.proofs.Outcomes.{all_at}
-use Rattle.index_remap.specs.Prelude.{Pairing, OneToOne, ResRel, done, trap, wrong, ListRel, ValRel, FrameRel, EntryRel, running, mark, opening, waiting, ended, growing, goes, calls, asks_grow, ends, ActRel, NotOpaque, NextRel, RunRel, EntriesKnown, TickSkips, calls_placeholder, RunsStepTogether, passing, WithPassing, through, FramesBetween, AnsweredInTwo, HaveTypes}
+use Rattle.index_remap.specs.Prelude.{Pairing, OneToOne, ResRel, done, trap, wrong, ListRel, ValRel, FrameRel, EntryRel, running, mark, opening, waiting, ended, growing, goes, calls, asks_grow, ends, ActRel, NotOpaque, NextRel, RunRel, EntriesKnown, TickSkips, calls_placeholder, RunsStepTogether}
+use Rattle.index_remap.specs.Prelude.{passing, WithPassing, through, FramesBetween, AnsweredInTwo, HaveTypes}
 use Rattle.index_remap.specs.Trampolines.{nil, cons}
 use Rattle.index_remap.specs.Related as related
 use Rattle.index_remap.proofs.Rel.{written, bind_rel_is}
@@ -135,7 +137,8 @@ module _ (R : Pairing) (apart : OneToOne R) where
       two : {f g k : Frame} {xs ys : List Entry} {us ws : List Val} → es ≡ Running f ∷ xs → fs ≡ Running g ∷ (Running k ∷ ys) → ListRel (ValRel R) us ws → WithPassing R xs ys → step r.store es ≡ give r.store us xs →
           (held : Frame) → step q.store fs ≡ Gives (Ran q.store (Running held ∷ ys)) → step q.store (Running held ∷ ys) ≡ give q.store ws ys → Answer es fs
 
-    goes_on : {f g : Frame} {x y : Act} {xs ys : List Entry} (inst : Inst) (locals : List Val) → FrameRel R f g → WithPassing R xs ys → ActRel R f.inst g.inst x y → NotOpaque R x → (IsEnd x → ⊥) → ResRel (NextRel R Both) (perform r.store f xs x) (perform q.store g (Running (passing inst locals g.results) ∷ ys) y)
+    goes_on : {f g : Frame} {x y : Act} {xs ys : List Entry} (inst : Inst) (locals : List Val) → FrameRel R f g → WithPassing R xs ys → ActRel R f.inst g.inst x y → NotOpaque R x → (IsEnd x → ⊥) →
+        ResRel (NextRel R Both) (perform r.store f xs x) (perform q.store g (Running (passing inst locals g.results) ∷ ys) y)
     goes_on inst locals p e a free on = perform_rel R apart (WithPassing R) between r.phase r.store q.store h.store a (unchanged R apart (WithPassing R) between r q h (through p inst locals e)) free (λ ends. absurd (on ends))
 
     -- the frames on top end: the second's gives its values to the frame that passes them on

@@ -1,6 +1,7 @@
 -- An instruction without a body keeps its type where each index that it names agrees with its entry, and a block the one of its block type.
 use Rattle.base_lists.proofs.Common.{◌≡◌, ℕ, ◌^◌, true, nat_lt, nat_le, List, [], ◌∷◌, Some, sym, ap, ◌∙◌, subst, option_and_then, option_map, slice_get, slice_index, ltb-true, lt-ltb, keeps_map, keeps_then, keeps_only}
-use Rattle.wasm_tree_spec.specs.Prelude.{ValType, BlockType, MemArg, Instr, fold_out-Instr, map-Instr, Block', Loop', If', Return, Call, CallIndirect, LocalGet, LocalSet, LocalTee, GlobalGet, GlobalSet, TableGet, TableSet, Load, Store, MemorySize, MemoryGrow, RefFunc, MemoryInit, DataDrop, MemoryCopy, MemoryFill, TableInit, ElemDrop, TableCopy, TableGrow, TableSize, TableFill, block_operands, map_operands, read_width, store_width}
+use Rattle.wasm_tree_spec.specs.Prelude.{ValType, BlockType, MemArg, Instr, fold_out-Instr, map-Instr, Block', Loop', If', Return, Call, CallIndirect, LocalGet, LocalSet, LocalTee, GlobalGet, GlobalSet, TableGet, TableSet, Load, Store, MemorySize, MemoryGrow, RefFunc, MemoryInit, DataDrop}
+use Rattle.wasm_tree_spec.specs.Prelude.{MemoryCopy, MemoryFill, TableInit, ElemDrop, TableCopy, TableGrow, TableSize, TableFill, block_operands, map_operands, read_width, store_width}
 use Rattle.wasm_tree.specs.declared.types.BlockType.TheVariants as bt
 use Rattle.wasm_tree.specs.declared.instr.Instr.{out-Instr}
 use Rattle.base_lists.specs.Every.{Every}

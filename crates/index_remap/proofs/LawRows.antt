@@ -9,7 +9,8 @@ use Rattle.wasm_tree.specs.declared.instr.Instr.TheVariants as i
 use Rattle.wasm_num.specs.Operations.{W32}
 use Rattle.wasm_meaning.specs.Prelude.{Outcome, Gives, Traps, FuncRef, Val, Num, Ref, Inst, Func, Code, Store, Entry, Running, Act, Ran, type_at, own_at, step}
 use Rattle.index_remap.specs.Related
-use Rattle.index_remap.specs.Prelude.{Pairing, OneToOne, OneToOneWhereWritten, is_written, some, ResRel, BothRel, both, ListRel, nil, cons, RefRel, ValRel, number, CodeRel, end, then, instead, FuncRel, defined, TableRel, ElemRel, StoreRel, EntryRel, running, NextRel, NotOpaque, TopSkips, passed, Above}
+use Rattle.index_remap.specs.Prelude.{Pairing, OneToOne, OneToOneWhereWritten, is_written, some, ResRel, BothRel, both, ListRel, nil, cons, RefRel, ValRel, number, CodeRel, end, then, instead, FuncRel, defined, TableRel, ElemRel, StoreRel, EntryRel, running, NextRel, NotOpaque, TopSkips, passed}
+use Rattle.index_remap.specs.Prelude.{Above}
 use Rattle.index_remap.proofs.AboveSteps.{step_above}
 use Rattle.index_remap.proofs.Known.{entries_known}
 use Rattle.index_remap.proofs.SameRuns.{touches, skips}

@@ -1,7 +1,8 @@
 -- Code with other indices, in which code stands in place of calls of listed functions, is related to what it was.
 use Rattle.base_lists.proofs.Common.{◌≡◌, ℕ, List, [], ◌∷◌, ◌++◌, Bool, true, false, ◌&&◌, refl, sym, subst}
 use Rattle.base_lists.specs.Members.{is_among}
-use Rattle.wasm_tree_spec.specs.Prelude.{FuncType, BlockType, Instr, fold_out-Instr, map-Instr, Row_of-Instr, end_of-Instr, more_of-Instr, items-the_row-Instr, items_shown-the_row-Instr-0, Block, Block', Loop, Loop', If, If', Call, Space, Functions, block_operands, map_operands, Layers, RowLayers, ListLayers}
+use Rattle.wasm_tree_spec.specs.Prelude.{FuncType, BlockType, Instr, fold_out-Instr, map-Instr, Row_of-Instr, end_of-Instr, more_of-Instr, items-the_row-Instr, items_shown-the_row-Instr-0, Block, Block', Loop, Loop', If, If', Call, Space, Functions, block_operands, map_operands, Layers, RowLayers}
+use Rattle.wasm_tree_spec.specs.Prelude.{ListLayers}
 use Rattle.wasm_tree.specs.declared.types.BlockType.TheVariants as bt
 use Rattle.wasm_tree.specs.declared.instr.Instr.{out-Instr}
 use Rattle.wasm_tree.specs.declared.instr.Instr.TheBlock.{shown-the_row-Instr-0}
@@ -11,7 +12,8 @@ use Rattle.wasm_meaning.specs.Prelude.{Inst}
 use Rattle.base_lists.specs.Every.{Every}
 use Rattle.index_remap.specs.declared.remap.Remap.{Remap}
 use Rattle.index_remap.specs.Related
-use Rattle.index_remap.specs.Prelude.{Pairing, BlockRel, empty, value, indexed, OpRel, CodeRel, end, then, instead, entry, new_type, renumbered, renumbered_all, EntryNames, LayerNames, Labels, Codes, CallReplaced, DenotesOne, RowReplaced, Replaced, is_opaque_call, OtherNamed, OthersNamed, ReplacementCodesFit}
+use Rattle.index_remap.specs.Prelude.{Pairing, BlockRel, empty, value, indexed, OpRel, CodeRel, end, then, instead, entry, new_type, renumbered, renumbered_all, EntryNames, LayerNames, Labels, Codes, CallReplaced, DenotesOne, RowReplaced, Replaced, is_opaque_call, OtherNamed, OthersNamed}
+use Rattle.index_remap.specs.Prelude.{ReplacementCodesFit}
 use Rattle.index_remap.proofs.NotOpaque.{operands_follow, unlisted_renumbered}
 
 module _ (R : Pairing) (m : Remap) (x y : Inst) where
@@ -120,4 +122,5 @@ named_other R m x y false space n h = h
 
 pub renumbered_rel : (R : Pairing) (m : Remap) (x y : Inst) (os : List Instr) → ListLayers (LayerNames R m x y) os → CodeRel R x y os (renumbered_all m os)
 renumbered_rel R m x y os h =
-    replaced_rel R m x y [] [] (λ labels f. []) (λ labels f a code among. cc) [] os (renumbered_all m os) (operands_follow (λ o. EntryNames R m x y o.space o.index) (λ o. OtherNamed R m (is_opaque_call [] o) x y o.space o.index) (λ o. named_other R m x y o.called o.space o.index) os h) (unlisted_renumbered [] m (λ labels f. []) [] os)
+    replaced_rel R m x y [] [] (λ labels f. []) (λ labels f a code among. cc) [] os (renumbered_all m os) (operands_follow (λ o. EntryNames R m x y o.space o.index) (λ o. OtherNamed R m (is_opaque_call [] o) x y o.space o.index) (λ o. named_other R m x y o.called o.space o.index) os h)
+    (unlisted_renumbered [] m (λ labels f. []) [] os)

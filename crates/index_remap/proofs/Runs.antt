@@ -3,9 +3,14 @@ use Rattle.base_lists.proofs.Common.{◌≡◌, ℕ, List, [], ◌∷◌, Option
 use Rattle.wasm_tree_spec.specs.Prelude.{Functions, Memories, RefType}
 use Rattle.wasm_tree.specs.declared.types.RefType.TheVariants as reft
 use Rattle.wasm_num.specs.Operations.{W32}
-use Rattle.wasm_meaning.specs.Prelude.{Outcome, overwrite, RefVal, Val, Num, Table, Memory, Store, Change, SetTable, Growth, Entry, Caller, Host, Starter, Opening, Ended, Growing, Next, null_of, memory_may_grow, table_may_grow, give, enter_at, step, same_text, Shown, ExternalValue, TableKey, MemoryKey, GlobalKey, same_key, func_of, received_ref, received_all, Begun, Event, InstanceTrapped, Returned, Asked, Got, Place, TableOf, MemoryOf, GlobalOf, Named, Move, Call, Invoke, Take, Answer, Refuse, Grant, Deny, Get, Size, Set, Extend, Phase, Pending, Opened, Closed, Run, Out, Transition, Steps, Makes, made, place_at, trapped_to, run_after, called, is_mark, delivered, grown_table, answered, refused, granted, decided, shows, got, size_of, does, byte_of, set, extended, moved, at_entries, or_bad, or_closed, next_move, began, nothing_in, started, open_next, is_taken_closed, closed_move, in_phase, transition_at}
+use Rattle.wasm_meaning.specs.Prelude.{Outcome, overwrite, RefVal, Val, Num, Table, Memory, Store, Change, SetTable, Growth, Entry, Caller, Host, Starter, Opening, Ended, Growing, Next, null_of, memory_may_grow, table_may_grow, give, enter_at, step, same_text, Shown, ExternalValue, TableKey}
+use Rattle.wasm_meaning.specs.Prelude.{MemoryKey, GlobalKey, same_key, func_of, received_ref, received_all, Begun, Event, InstanceTrapped, Returned, Asked, Got, Place, TableOf, MemoryOf, GlobalOf, Named, Move, Call, Invoke, Take, Answer, Refuse, Grant, Deny, Get, Size, Set, Extend, Phase, Pending}
+use Rattle.wasm_meaning.specs.Prelude.{Opened, Closed, Run, Out, Transition, Steps, Makes, made, place_at, trapped_to, run_after, called, is_mark, delivered, grown_table, answered, refused, granted, decided, shows, got, size_of, does, byte_of, set, extended, moved, at_entries, or_bad, or_closed}
+use Rattle.wasm_meaning.specs.Prelude.{next_move, began, nothing_in, started, open_next, is_taken_closed, closed_move, in_phase, transition_at}
 use Rattle.wasm_meaning.specs.Run.{trapped_at, showing, with_change, view_of}
-use Rattle.index_remap.specs.Prelude.{Pairing, OneToOne, OptRel, none, some, ResRel, done, trap, wrong, ListRel, nil, cons, RefRel, func, extern, ValRel, number, reference, TableRel, StoreRel, mark, opening, waiting, ended, growing, ChangeRel, set_global, set_memory, set_table, GrowthRel, memory_grows, table_grows, NextRel, ran, asked, asked_grow, loads, returned, ExternalValueRel, a_func, a_table, a_memory, a_global, KeyRel, BegunRel, PhaseRel, fresh, pending, opened, closed, RunRel, OutRel, MoveSkips, NextMoveSkips, TickSkips, calls_placeholder}
+use Rattle.index_remap.specs.Prelude.{Pairing, OneToOne, OptRel, none, some, ResRel, done, trap, wrong, ListRel, nil, cons, RefRel, func, extern, ValRel, number, reference, TableRel, StoreRel, mark, opening, waiting, ended, growing, ChangeRel, set_global, set_memory, set_table, GrowthRel}
+use Rattle.index_remap.specs.Prelude.{memory_grows, table_grows, NextRel, ran, asked, asked_grow, loads, returned, ExternalValueRel, a_func, a_table, a_memory, a_global, KeyRel, BegunRel, PhaseRel, fresh, pending, opened, closed, RunRel, OutRel, MoveSkips, NextMoveSkips, TickSkips}
+use Rattle.index_remap.specs.Prelude.{calls_placeholder}
 use Rattle.index_remap.proofs.Rel.{written}
 use Rattle.base_lists.proofs.Related.{then_rel_is, either_rel, if_there_at}
 use Rattle.base_lists.specs.Related.{PairRel}
@@ -77,7 +82,9 @@ module _ (R : Pairing) (apart : OneToOne R) (B C : Store → Store → List Entr
 
   called_rel : {r q : Run} {es fs : List Entry} {a b : ℕ} (xs : List Shown) → RunRel R B F r q → C r.store q.store es fs → R.of Functions a b → ¬ R.listed a → OptRel TransitionRel (called r es xs a) (called q fs xs b)
   called_rel {r} {q} {es} {fs} {a} {b} xs h e n free =
-      then_rel_is (there (h.store.types n)) (λ t u is same. subst (λ y. OptRel TransitionRel (option_and_then (λ vs. Some (Steps r (enter_at r.store a vs es))) (received_all r.owned r.shown t.params xs)) (option_and_then (λ vs. Some (Steps q (enter_at q.store b vs fs))) (received_all q.owned q.shown y.params xs))) same (then_rel_is (received_all_rel R t.params xs h.owned h.shown) (λ vs _ got v. some (steps h (stacks.enters h.store n free is (if_there_at (fits_received r.owned r.shown t.params xs) got) v e)))))
+      then_rel_is (there (h.store.types n)) (λ t u is same. subst (λ y. OptRel TransitionRel (option_and_then (λ vs. Some (Steps r (enter_at r.store a vs es))) (received_all r.owned r.shown t.params xs))
+      (option_and_then (λ vs. Some (Steps q (enter_at q.store b vs fs))) (received_all q.owned q.shown y.params xs))) same
+      (then_rel_is (received_all_rel R t.params xs h.owned h.shown) (λ vs _ got v. some (steps h (stacks.enters h.store n free is (if_there_at (fits_received r.owned r.shown t.params xs) got) v e)))))
 
   delivered_rel : {r q : Run} {vs ws : List Val} {es fs : List Entry} → RunRel R B F r q → ListRel (ValRel R) vs ws → C r.store q.store es fs → TransitionRel (delivered r vs es) (delivered q ws fs)
   delivered_rel {r} {q} {vs} {ws} {es} {fs} h v e = rw (stacks.marked e) (either (is_mark fs))
@@ -113,7 +120,8 @@ module _ (R : Pairing) (apart : OneToOne R) (B C : Store → Store → List Entr
   table_grown : {t u : Table} {v w : RefVal} (n : ℕ) → TableRel R t u → RefRel R v w → TableRel R (grown_table t n v) (grown_table u n w)
   table_grown {v = v} {w = w} n t x = record { type = t.type; most = t.most; slots = append_rel t.slots (copies_rel v w n x) }
 
-  then_memory_at : {A C : Type 0} {Q : A → C → Type 0} {r q : Run} {a b : ℕ} {f : Memory → Option A} {g : Memory → Option C} → RunRel R B F r q → R.of Memories a b → ((m : Memory) → OptRel Q (f m) (g m)) → OptRel Q (option_and_then f (slice_get r.store.mems a)) (option_and_then g (slice_get q.store.mems b))
+  then_memory_at : {A C : Type 0} {Q : A → C → Type 0} {r q : Run} {a b : ℕ} {f : Memory → Option A} {g : Memory → Option C} → RunRel R B F r q → R.of Memories a b → ((m : Memory) → OptRel Q (f m) (g m)) →
+      OptRel Q (option_and_then f (slice_get r.store.mems a)) (option_and_then g (slice_get q.store.mems b))
   then_memory_at {Q = Q} {f = f} {g = g} h p k = then_rel (there (h.store.mems p)) (λ x y e. subst (λ z. OptRel Q (f x) (g z)) e (k x))
 
   granted_rel : {r q : Run} {x y : Growth} {es fs : List Entry} → RunRel R B F r q → GrowthRel R x y → C r.store q.store es fs → OptRel TransitionRel (granted r x es) (granted q y fs)
@@ -162,7 +170,9 @@ module _ (R : Pairing) (apart : OneToOne R) (B C : Store → Store → List Entr
 
   extended_rel : {r q : Run} {x y : ExternalValue} (n : ℕ) → RunRel R B F r q → ExternalValueRel R x y → OptRel TransitionRel (extended r x n) (extended q y n)
   extended_rel n h (a_func p) = none
-  extended_rel {r} {q} n h (a_table {a = a1} {b = b1} p) = then_rel (there (h.store.tables p)) (λ t u x. subst (λ b. OptRel TransitionRel (cond (table_may_grow t n) (does r (SetTable a1 (grown_table t n (null_of t.ty)))) None) (cond b (does q (SetTable b1 (grown_table u n (null_of u.ty)))) None)) (may_same t u n (length_rel x.slots) x.most) (either_rel (table_may_grow t n) (does_rel h (set_table p (table_grown n x (subst (λ z. RefRel R (null_of t.ty) (null_of z)) x.type (null_rel t.ty))))) none))
+  extended_rel {r} {q} n h (a_table {a = a1} {b = b1} p) = then_rel (there (h.store.tables p)) (λ t u x.
+      subst (λ b. OptRel TransitionRel (cond (table_may_grow t n) (does r (SetTable a1 (grown_table t n (null_of t.ty)))) None) (cond b (does q (SetTable b1 (grown_table u n (null_of u.ty)))) None)) (may_same t u n (length_rel x.slots) x.most)
+      (either_rel (table_may_grow t n) (does_rel h (set_table p (table_grown n x (subst (λ z. RefRel R (null_of t.ty) (null_of z)) x.type (null_rel t.ty))))) none))
   extended_rel n h (a_memory p) = then_memory_at h p (λ m. either_rel (memory_may_grow m n) (does_rel h (set_memory p)) none)
   extended_rel n h (a_global p) = none
 
@@ -190,7 +200,8 @@ module _ (R : Pairing) (apart : OneToOne R) (B C : Store → Store → List Entr
   NotGrowing (Growing g ∷ es) = ⊥
   NotGrowing es = Unit {0}
 
-  at_entries_rel : {r q : Run} {es fs : List Entry} (m : Move) → RunRel R B F r q → C r.store q.store r.entries q.entries → TopView R (written apart) C r.store q.store r.entries q.entries → TopView R (written apart) C r.store q.store es fs → (NotGrowing es → MoveSkips R r.view r.shown m) → OptRel TransitionRel (at_entries r m es) (at_entries q m fs)
+  at_entries_rel : {r q : Run} {es fs : List Entry} (m : Move) → RunRel R B F r q → C r.store q.store r.entries q.entries → TopView R (written apart) C r.store q.store r.entries q.entries → TopView R (written apart) C r.store q.store es fs → (NotGrowing es → MoveSkips R r.view r.shown m) →
+      OptRel TransitionRel (at_entries r m es) (at_entries q m fs)
   at_entries_rel m h c w (top_growing p e) free = decided_rel m h p e
   at_entries_rel m h c w (top_none e) free = moved_rel m h c w (free tt)
   at_entries_rel m h c w (top_mark e) free = moved_rel m h c w (free tt)
@@ -240,7 +251,8 @@ module _ (R : Pairing) (apart : OneToOne R) (B C : Store → Store → List Entr
   began_rel h none = record { event = refl; run = phase_rel (state_rel h h.store (stacks.steady (stacks.cleared h.entries))) closed }
   began_rel {r} {q} h (some {a = b} {b = c} g) = rw g.trapped (either c.trapped)
     where
-      either : (x : Bool) → OutRel R B F (cond x (record r { store = b.store; entries = []; phase = Closed; owned = b.owned }, Some InstanceTrapped) (record r { store = b.store; entries = Opening b.starts ∷ []; phase = Pending b.view; owned = b.owned }, None)) (cond x (record q { store = c.store; entries = []; phase = Closed; owned = c.owned }, Some InstanceTrapped) (record q { store = c.store; entries = Opening c.starts ∷ []; phase = Pending c.view; owned = c.owned }, None))
+      either : (x : Bool) → OutRel R B F (cond x (record r { store = b.store; entries = []; phase = Closed; owned = b.owned }, Some InstanceTrapped) (record r { store = b.store; entries = Opening b.starts ∷ []; phase = Pending b.view; owned = b.owned }, None))
+          (cond x (record q { store = c.store; entries = []; phase = Closed; owned = c.owned }, Some InstanceTrapped) (record q { store = c.store; entries = Opening c.starts ∷ []; phase = Pending c.view; owned = c.owned }, None))
       either true = record { event = refl; run = record { store = g.store; entries = begins _ _ _ _ g.closed; phase = closed; shown = h.shown; view = h.view; owned = g.owned; moves = h.moves } }
       either false = record { event = refl; run = record { store = g.store; entries = begins _ _ _ _ g.entries; phase = pending g.view; shown = h.shown; view = h.view; owned = g.owned; moves = h.moves } }
 
@@ -262,14 +274,16 @@ module _ (R : Pairing) (apart : OneToOne R) (B C : Store → Store → List Entr
 
   started_rel : {r q : Run} {xs ys : List ℕ} {es fs : List Entry} {a b : ℕ} → RunRel R B F r q → ListRel (R.of Functions) xs ys → C r.store q.store es fs → R.of Functions a b → ¬ R.listed a → OptRel TransitionRel (started r xs es a) (started q ys fs b)
   started_rel {r} {q} {xs} {ys} {es} {fs} {a} {b} h x e n free =
-      then_rel (there (h.store.types n)) (λ t u same. subst (λ y. OptRel TransitionRel (option_and_then (λ v. called r (Opening xs ∷ es) [] a) (nothing_in t.results)) (option_and_then (λ v. called q (Opening ys ∷ fs) [] b) (nothing_in y.results))) same (then_same (nothing_in t.results) (λ v. called_rel [] h (stacks.push (opening x) e) n free)))
+      then_rel (there (h.store.types n)) (λ t u same. subst (λ y. OptRel TransitionRel (option_and_then (λ v. called r (Opening xs ∷ es) [] a) (nothing_in t.results)) (option_and_then (λ v. called q (Opening ys ∷ fs) [] b) (nothing_in y.results))) same
+      (then_same (nothing_in t.results) (λ v. called_rel [] h (stacks.push (opening x) e) n free)))
 
   open_next_rel : {r q : Run} {xs ys : List ℕ} {es fs : List Entry} → RunRel R B F r q → ListRel (R.of Functions) xs ys → C r.store q.store es fs → TickSkips R r (Opening xs ∷ es) → TransitionRel (open_next r xs es) (open_next q ys fs)
   open_next_rel h nil e free = makes (record { event = refl; run = record { store = h.store; entries = stacks.steady e; phase = opened; shown = h.shown; view = view_of_rel h h.phase; owned = h.owned; moves = h.moves } })
   open_next_rel h (cons n x) e free = or_closed_rel h (started_rel h x e n free)
 
   -- a step of each, given what a step of the top frames comes to
-  between_rel : {r q : Run} {es fs : List Entry} → RunRel R B F r q → (C r.store q.store es fs → C r.store q.store r.entries q.entries) → (TopView R (written apart) C r.store q.store es fs → TopView R (written apart) C r.store q.store r.entries q.entries) → TopView R (written apart) C r.store q.store es fs → ResRel (NextRel R B) (step r.store r.entries) (step q.store q.entries) → r.entries ≡ es → TickSkips R r es → TransitionRel (transition_at r es) (transition_at q fs)
+  between_rel : {r q : Run} {es fs : List Entry} → RunRel R B F r q → (C r.store q.store es fs → C r.store q.store r.entries q.entries) → (TopView R (written apart) C r.store q.store es fs → TopView R (written apart) C r.store q.store r.entries q.entries) →
+      TopView R (written apart) C r.store q.store es fs → ResRel (NextRel R B) (step r.store r.entries) (step q.store q.entries) → r.entries ≡ es → TickSkips R r es → TransitionRel (transition_at r es) (transition_at q fs)
   between_rel h whole views (top_none e) s same free = in_phase_rel h (whole e) (views (top_none e)) h.phase free
   between_rel h whole views (top_mark e) s same free = steps h wrong
   between_rel h whole views (top_opening x e) s same free = open_next_rel h x e free
@@ -278,9 +292,11 @@ module _ (R : Pairing) (apart : OneToOne R) (B C : Store → Store → List Entr
   between_rel h whole views (top_growing n e) s same free = due_move_rel h.moves h (whole (stacks.push (growing n) e)) (views (top_growing n e)) (λ waits. absurd (subst NotGrowing same waits))
   between_rel h whole views top_running s same free = steps h s
 
-  pub still_rel : {r q : Run} {es fs : List Entry} → RunRel R B F r q → (C r.store q.store es fs → C r.store q.store r.entries q.entries) → (TopView R (written apart) C r.store q.store es fs → TopView R (written apart) C r.store q.store r.entries q.entries) → TopView R (written apart) C r.store q.store es fs → ResRel (NextRel R B) (step r.store r.entries) (step q.store q.entries) → r.entries ≡ es → TickSkips R r es → OutRel R B F (made (transition_at r es)) (made (transition_at q fs))
+  pub still_rel : {r q : Run} {es fs : List Entry} → RunRel R B F r q → (C r.store q.store es fs → C r.store q.store r.entries q.entries) → (TopView R (written apart) C r.store q.store es fs → TopView R (written apart) C r.store q.store r.entries q.entries) →
+      TopView R (written apart) C r.store q.store es fs → ResRel (NextRel R B) (step r.store r.entries) (step q.store q.entries) → r.entries ≡ es → TickSkips R r es → OutRel R B F (made (transition_at r es)) (made (transition_at q fs))
   still_rel h whole views w s same free = made_rel (between_rel h whole views w s same free)
 
   -- of what kind they are
-  pub still_kinds : {r q : Run} {es fs : List Entry} → RunRel R B F r q → (C r.store q.store es fs → C r.store q.store r.entries q.entries) → (TopView R (written apart) C r.store q.store es fs → TopView R (written apart) C r.store q.store r.entries q.entries) → TopView R (written apart) C r.store q.store es fs → ResRel (NextRel R B) (step r.store r.entries) (step q.store q.entries) → r.entries ≡ es → TickSkips R r es → calls_placeholder (transition_at r es) ≡ calls_placeholder (transition_at q fs)
+  pub still_kinds : {r q : Run} {es fs : List Entry} → RunRel R B F r q → (C r.store q.store es fs → C r.store q.store r.entries q.entries) → (TopView R (written apart) C r.store q.store es fs → TopView R (written apart) C r.store q.store r.entries q.entries) →
+      TopView R (written apart) C r.store q.store es fs → ResRel (NextRel R B) (step r.store r.entries) (step q.store q.entries) → r.entries ≡ es → TickSkips R r es → calls_placeholder (transition_at r es) ≡ calls_placeholder (transition_at q fs)
   still_kinds h whole views w s same free = kinds_rel (between_rel h whole views w s same free)

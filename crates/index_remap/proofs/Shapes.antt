@@ -3,7 +3,8 @@
 use Rattle.base_lists.proofs.Common.{◌≡◌, List, [], ◌∷◌, refl, there, same_there}
 use Rattle.wasm_meaning.specs.Prelude.{Outcome, Val, Store, Change, Level, Frame, Entry, Running, Caller, Act, Ends, changed, give, give_levels, perform, step, to_mark, Phase, Run, Out, is_mark, run_after, transition, tick}
 use Rattle.wasm_meaning.proofs.Outcomes.{all_at}
-use Rattle.index_remap.specs.Prelude.{Pairing, OneToOne, none, some, ResRel, done, trap, wrong, ListRel, nil, cons, ValRel, StoreRel, LevelRel, FrameRel, EntryRel, growing, ActRel, goes, calls, asks_grow, ends, ChangeRel, NextRel, ran, asked_grow, returned, NotOpaque, turned, PhaseRel, fresh, pending, opened, closed, KeepsOthers, IsBegun, RunRel, OutRel, TickSkips, calls_placeholder, RunsStepTogether}
+use Rattle.index_remap.specs.Prelude.{Pairing, OneToOne, none, some, ResRel, done, trap, wrong, ListRel, nil, cons, ValRel, StoreRel, LevelRel, FrameRel, EntryRel, growing, ActRel, goes, calls, asks_grow, ends, ChangeRel, NextRel, ran, asked_grow, returned, NotOpaque, turned, PhaseRel, fresh}
+use Rattle.index_remap.specs.Prelude.{pending, opened, closed, KeepsOthers, IsBegun, RunRel, OutRel, TickSkips, calls_placeholder, RunsStepTogether}
 use Rattle.index_remap.proofs.Rel.{written, bind_rel, bind_found, bind_is, bind_rel_is}
 use Rattle.base_lists.specs.Related.{PairRel}
 use Rattle.index_remap.proofs.ValueSteps.{pop_typed_all, pop_typed_rel}

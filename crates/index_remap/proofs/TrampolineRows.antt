@@ -10,7 +10,8 @@ use Rattle.wasm_num.specs.Operations.{W32, wrapped}
 use Rattle.base_simulation.specs.Machines.{events_of}
 use Rattle.wasm_meaning.specs.Prelude.{Outcome, Gives, Traps, RefVal, FuncRef, Val, Num, Inst, Func, Code, Store, Entry, Running, Mark, Opening, Act, Ran, type_at, own_at, Number, enter_at, step, Returned, Opened, Run, tick}
 use Rattle.index_remap.specs.Related
-use Rattle.index_remap.specs.Prelude.{Pairing, OneToOne, EntryRel, running, NotOpaque, some, ResRel, done, BothRel, both, ListRel, nil, cons, ValRel, number, CodeRel, end, then, StoreRel, NextRel, opened, passed, EntryByEntry, TickSkips, RunsStepTogether, passing, WithPassing, through, AnsweredInTwo, FramesBetween, slot_call, trampoline, InSlot, go_on, CodeAt}
+use Rattle.index_remap.specs.Prelude.{Pairing, OneToOne, EntryRel, running, NotOpaque, some, ResRel, done, BothRel, both, ListRel, nil, cons, ValRel, number, CodeRel, end, then, StoreRel, NextRel, opened, passed, EntryByEntry, TickSkips, RunsStepTogether, passing, WithPassing, through}
+use Rattle.index_remap.specs.Prelude.{AnsweredInTwo, FramesBetween, slot_call, trampoline, InSlot, go_on, CodeAt}
 use Rattle.index_remap.specs.Trampolines as between
 use Rattle.index_remap.proofs.Known.{entries_known}
 use Rattle.index_remap.proofs.Lockstep.{ticks_together}

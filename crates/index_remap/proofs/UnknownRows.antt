@@ -11,7 +11,8 @@ use Rattle.wasm_tree.specs.declared.instr.Instr.TheVariants as i
 use Rattle.wasm_num.specs.Operations.{W32}
 use Rattle.wasm_meaning.specs.Prelude.{Outcome, Gives, RefVal, FuncRef, Val, Num, Inst, Store, Entry, Ran, step}
 use Rattle.index_remap.specs.Related
-use Rattle.index_remap.specs.Prelude.{Pairing, OneToOneWhereWritten, none, some, ResRel, done, OptRel, BothRel, both, ListRel, nil, cons, RefRel, func, ValRel, number, CodeRel, end, then, EntryRel, running, ran, TopSkips, passed, Above, Touches, EntriesKnown, Unknowns, is_place_among, GlobalOff, RefsOff, TableOff, StoreRelOff, ReadPlace, ReadsNothing, ReadsGlobal, ReadsSlots, IsKnown, ReadsKnown, StepReadsKnown, left_unknown, NextOff, KnownSteps, none_left, known_step}
+use Rattle.index_remap.specs.Prelude.{Pairing, OneToOneWhereWritten, none, some, ResRel, done, OptRel, BothRel, both, ListRel, nil, cons, RefRel, func, ValRel, number, CodeRel, end, then, EntryRel, running, ran, TopSkips, passed, Above, Touches, EntriesKnown, Unknowns, is_place_among, GlobalOff}
+use Rattle.index_remap.specs.Prelude.{RefsOff, TableOff, StoreRelOff, ReadPlace, ReadsNothing, ReadsGlobal, ReadsSlots, IsKnown, ReadsKnown, StepReadsKnown, left_unknown, NextOff, KnownSteps, none_left, known_step}
 use Rattle.index_remap.specs.Unknown.{FollowsOff}
 use Rattle.index_remap.proofs.Known.{entries_known}
 use Rattle.index_remap.proofs.AboveSteps.{entries_of}

@@ -6,7 +6,8 @@ use Rattle.wasm_tree.specs.declared.types.RefType.TheVariants as reft
 use Rattle.wasm_tree.specs.declared.types.ValType.TheVariants as valt
 use Rattle.wasm_num.specs.declared.UnOp.{UnOp}
 use Rattle.wasm_num.specs.declared.BinOp.{BinOp}
-use Rattle.wasm_meaning.specs.Prelude.{Outcome, Gives, IllTyped, or_trap, bind, RefVal, Val, Num, Global, Env, Body, type_of_ref, type_of, same_type, pop, pop_num, pop_ref, typed, pop_typed, null_of, zero_of, zeros, unary, binary, ref_is_null, select_of, select_any, select_typed, go, with_values, on_values, pushes, local_put, global_put, global_set}
+use Rattle.wasm_meaning.specs.Prelude.{Outcome, Gives, IllTyped, or_trap, bind, RefVal, Val, Num, Global, Env, Body, type_of_ref, type_of, same_type, pop, pop_num, pop_ref, typed, pop_typed, null_of, zero_of, zeros, unary, binary, ref_is_null, select_of, select_any, select_typed, go, with_values}
+use Rattle.wasm_meaning.specs.Prelude.{on_values, pushes, local_put, global_put, global_set}
 use Rattle.wasm_num.specs.Operations.{Width, W32, W64, un_from, bin_from, bin_value}
 use Rattle.wasm_meaning.specs.Values.{is_null, is_number, second_type, local_get, local_set, local_tee, global_get, ref_func}
 use Rattle.index_remap.specs.Prelude.{Pairing, none, some, ResRel, done, wrong, ListRel, nil, cons, RefRel, func, extern, ValRel, number, reference, AreNamesRelated, BodyRel, keep, set_global, goes, Unknowns, StoreRelOff, ReadsGlobal, read_by, ReadsKnown, known, ActOff, HaveTypes}
@@ -34,7 +35,8 @@ module _ (R : Pairing) where
   pop_rel (cons p r) = done (record { first = p; second = r })
 
   -- the same number on top of both
-  pub bind_num_is : {C D : Type 0} {Q : C → D → Type 0} {vs ws : List Val} (w : Width) (f : ℕ × List Val → Outcome C) (g : ℕ × List Val → Outcome D) → ListRel (ValRel R) vs ws → ((n : ℕ) (xs ys : List Val) → pop_num w vs ≡ Gives (n, xs) → ListRel (ValRel R) xs ys → ResRel Q (f (n, xs)) (g (n, ys))) → ResRel Q (bind (pop_num w vs) f) (bind (pop_num w ws) g)
+  pub bind_num_is : {C D : Type 0} {Q : C → D → Type 0} {vs ws : List Val} (w : Width) (f : ℕ × List Val → Outcome C) (g : ℕ × List Val → Outcome D) → ListRel (ValRel R) vs ws →
+      ((n : ℕ) (xs ys : List Val) → pop_num w vs ≡ Gives (n, xs) → ListRel (ValRel R) xs ys → ResRel Q (f (n, xs)) (g (n, ys))) → ResRel Q (bind (pop_num w vs) f) (bind (pop_num w ws) g)
   bind_num_is w f g nil h = wrong
   bind_num_is W32 f g (cons (number {w = W32}) r) h = h _ _ _ refl r
   bind_num_is W32 f g (cons (number {w = W64}) r) h = wrong
@@ -43,7 +45,8 @@ module _ (R : Pairing) where
   bind_num_is W32 f g (cons (reference p) r) h = wrong
   bind_num_is W64 f g (cons (reference p) r) h = wrong
 
-  pub bind_num : {C D : Type 0} {Q : C → D → Type 0} {vs ws : List Val} (w : Width) (f : ℕ × List Val → Outcome C) (g : ℕ × List Val → Outcome D) → ListRel (ValRel R) vs ws → ((n : ℕ) (xs ys : List Val) → ListRel (ValRel R) xs ys → ResRel Q (f (n, xs)) (g (n, ys))) → ResRel Q (bind (pop_num w vs) f) (bind (pop_num w ws) g)
+  pub bind_num : {C D : Type 0} {Q : C → D → Type 0} {vs ws : List Val} (w : Width) (f : ℕ × List Val → Outcome C) (g : ℕ × List Val → Outcome D) → ListRel (ValRel R) vs ws → ((n : ℕ) (xs ys : List Val) → ListRel (ValRel R) xs ys → ResRel Q (f (n, xs)) (g (n, ys))) →
+      ResRel Q (bind (pop_num w vs) f) (bind (pop_num w ws) g)
   bind_num w f g r h = bind_num_is w f g r (λ n xs ys _ v. h n xs ys v)
 
   pub pop_ref_rel : {vs ws : List Val} → ListRel (ValRel R) vs ws → ResRel (PairRel (RefRel R) (ListRel (ValRel R))) (pop_ref vs) (pop_ref ws)

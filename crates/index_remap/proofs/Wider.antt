@@ -4,7 +4,8 @@ use Rattle.wasm_tree_spec.specs.Prelude.{Space, Instr}
 use Rattle.wasm_tree.specs.declared.instr.Instr.TheOpen.{Instr-F}
 use Rattle.wasm_meaning.specs.Prelude.{RefVal, Val, Inst, Func, Store, Level, Frame, Growth, Entry, ExternalValue, Begun, Phase, Run}
 use Rattle.index_remap.specs.Related
-use Rattle.index_remap.specs.Prelude.{Pairing, OptRel, none, some, ListRel, nil, cons, RefRel, func, extern, ValRel, number, reference, OpRel, CodeRel, end, then, instead, FuncRel, defined, own, slot, StoreRel, LevelRel, FrameRel, GrowthRel, memory_grows, table_grows, EntryRel, running, mark, opening, waiting, ended, growing, ExternalValueRel, a_func, a_table, a_memory, a_global, KeyRel, BegunRel, PhaseRel, fresh, pending, opened, closed, RunRel, WithPassing, through, FramesBetween}
+use Rattle.index_remap.specs.Prelude.{Pairing, OptRel, none, some, ListRel, nil, cons, RefRel, func, extern, ValRel, number, reference, OpRel, CodeRel, end, then, instead, FuncRel, defined, own, slot, StoreRel, LevelRel, FrameRel, GrowthRel, memory_grows, table_grows, EntryRel, running, mark}
+use Rattle.index_remap.specs.Prelude.{opening, waiting, ended, growing, ExternalValueRel, a_func, a_table, a_memory, a_global, KeyRel, BegunRel, PhaseRel, fresh, pending, opened, closed, RunRel, WithPassing, through, FramesBetween}
 use Rattle.index_remap.specs.Related.{by}
 use Rattle.index_remap.specs.Trampolines as between
 

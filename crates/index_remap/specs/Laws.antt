@@ -76,7 +76,8 @@ NamedAreKnown = (of named : Space → ℕ → ℕ → Bool) (l : List ℕ) → (
 -- related, number by number; they are so again afterwards.
 abbrev pub ShownAgree : Type 0
 ShownAgree =
-    (of named : Space → ℕ → ℕ → Bool) (l : List ℕ) → OneToOne (passed of named l) → (s t : Store) (vs ws : List Val) (xs ys : List ℕ) → StoreRel (passed of named l) s t → ListRel (ValRel (passed of named l)) vs ws →
+    (of named : Space → ℕ → ℕ → Bool) (l : List ℕ) → OneToOne (passed of named l) → (s t : Store) (vs ws : List Val) (xs ys : List ℕ) → StoreRel (passed of named l) s t →
+    ListRel (ValRel (passed of named l)) vs ws →
     ListRel (λ a b. IsTrue (of Functions a b)) xs ys → ShowRel (passed of named l) (show_all s xs vs) (show_all t ys ws)
 
 -- A trap ends at this entry.
@@ -101,7 +102,8 @@ TrapsAgree =
 -- that replaces a call has the type of the function under the labels at that place.
 abbrev pub TypingIsKept : Type 0
 TypingIsKept =
-    (m : Remap) (listed : List ℕ) (codes : Codes) (c d : Context) (is js : List Instr) (ps rs : List ValType) → SameFrame c d → ListLayers (OthersAgree m listed c d) is → CodesHaveTypes listed codes c d →
+    (m : Remap) (listed : List ℕ) (codes : Codes) (c d : Context) (is js : List Instr) (ps rs : List ValType) → SameFrame c d → ListLayers (OthersAgree m listed c d) is →
+    CodesHaveTypes listed codes c d →
     Replaced c.types m listed codes c.labels is js → WellTyped c is ps rs → WellTyped d js ps rs
 
 -- Such code is related to the body, if each index that the other instructions name and its entry
@@ -110,7 +112,8 @@ TypingIsKept =
 abbrev pub ReplacedCodeIsRelated : Type 0
 ReplacedCodeIsRelated =
     (of named : Space → ℕ → ℕ → Bool) (l : List ℕ) (stands : CodeTest) (m : Remap) (i j : Inst) (types : List FuncType) (labels : Labels) (listed : List ℕ) (codes : Codes) (is js : List Instr) →
-    ReplacementCodesFit (passed_with of named l stands) listed codes i j → ListLayers (OthersNamed (passed_with of named l stands) m listed i j) is → Replaced types m listed codes labels is js → CodeRel (passed_with of named l stands) i j is js
+    ReplacementCodesFit (passed_with of named l stands) listed codes i j → ListLayers (OthersNamed (passed_with of named l stands) m listed i j) is → Replaced types m listed codes labels is js →
+    CodeRel (passed_with of named l stands) i j is js
 
 -- If the list is empty, the body with other indices is such code.
 abbrev pub NotOpaqueAreRenumbered : Type 0
@@ -120,7 +123,8 @@ NotOpaqueAreRenumbered = (types : List FuncType) (m : Remap) (codes : Codes) (la
 -- addresses of the code relation, or equal types, or neither denotes anything.
 abbrev pub RenumberedCodeIsRelated : Type 0
 RenumberedCodeIsRelated =
-    (of named : Space → ℕ → ℕ → Bool) (l : List ℕ) (m : Remap) (i j : Inst) (code : List Instr) → ListLayers (LayerNames (passed of named l) m i j) code → CodeRel (passed of named l) i j code (renumbered_all m code)
+    (of named : Space → ℕ → ℕ → Bool) (l : List ℕ) (m : Remap) (i j : Inst) (code : List Instr) → ListLayers (LayerNames (passed of named l) m i j) code →
+    CodeRel (passed of named l) i j code (renumbered_all m code)
 
 -- Stacks that are related entry by entry, whatever the stores.
 abbrev pub EntryByEntry : Pairing → Store → Store → List Entry → List Entry → Type 0

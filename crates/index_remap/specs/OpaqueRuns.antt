@@ -3,7 +3,8 @@
 use Rattle.std.proofs.Common.{◌≡◌, ℕ, List, [], ◌∷◌, Some, Bool, true, false, slice_get}
 use Rattle.wasm_tree_spec.specs.Prelude.{Space}
 use Rattle.base_lists.specs.Options.{◌>>=◌}
-use Rattle.wasm_meaning.specs.Prelude.{Gives, Text, Store, Entry, Opening, Waiting, CallsPlaceholder, same_text, ExternalValue, look_up, func_of, Move, Call, Invoke, Opened, Run, Out, Transition, Steps, tick}
+use Rattle.wasm_meaning.specs.Prelude.{Gives, Text, Store, Entry, Opening, Waiting, CallsPlaceholder, same_text, ExternalValue, look_up, func_of, Move, Call, Invoke, Opened, Run, Out, Transition}
+use Rattle.wasm_meaning.specs.Prelude.{Steps, tick}
 use Rattle.index_remap.specs.Related.{Pairing, OneToOne, TopSkips}
 use Rattle.index_remap.specs.RelatedRuns.{OutRel, turned, KeepsOthers, IsBegun}
 use Rattle.index_remap.specs.Laws.{CodeTest, passed_with, EntriesKnown, EntryByEntry, RelatedRuns}
@@ -52,4 +53,5 @@ pub record RunsStepTogether (R : Pairing) (B : Store → Store → List Entry �
 abbrev pub RunsWithOpaqueFunctionsAgree : Type 0
 RunsWithOpaqueFunctionsAgree =
     (of named : Space → ℕ → ℕ → Bool) (l : List ℕ) (stands : CodeTest) → OneToOne (passed_with of named l stands) → (r q : Run) → RelatedRuns (passed_with of named l stands) r q →
-    TickSkips (passed_with of named l stands) r r.entries → EntriesKnown (passed_with of named l stands) r.entries q.entries → RunsStepTogether (passed_with of named l stands) (EntryByEntry (passed_with of named l stands)) r q (tick r) (tick q)
+    TickSkips (passed_with of named l stands) r r.entries → EntriesKnown (passed_with of named l stands) r.entries q.entries →
+    RunsStepTogether (passed_with of named l stands) (EntryByEntry (passed_with of named l stands)) r q (tick r) (tick q)

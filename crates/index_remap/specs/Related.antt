@@ -8,7 +8,9 @@ use Rattle.wasm_tree.specs.declared.types.BlockType.TheVariants as bt
 use Rattle.wasm_num.specs.declared.UnOp.{UnOp}
 use Rattle.wasm_num.specs.declared.BinOp.{BinOp}
 use Rattle.wasm_tree.specs.declared.instr.Instr.TheOpen.{Instr-F}
-use Rattle.wasm_meaning.specs.Prelude.{Gives, Pair, RefVal, FuncRef, ExternRef, Val, Num, Ref, Inst, Func, Code, Own, Placeholder, Table, Memory, Global, Elem, Store, Level, Frame, Growth, GrowMemory, GrowTable, Entry, Running, Mark, Opening, Waiting, Ended, Growing, Body, Change, Keep, SetGlobal, SetMemory, SetTable, DropElem, DropData, Act, Goes, Calls, AsksGrow, Ends, Next, Ran, CallsOwn, WaitsGrowth, CallsPlaceholder, EndsCall, type_at, own_at, act}
+use Rattle.wasm_meaning.specs.Prelude.{Gives, Pair, RefVal, FuncRef, ExternRef, Val, Num, Ref, Inst, Func, Code, Own, Placeholder, Table, Memory, Global, Elem, Store, Level, Frame, Growth, GrowMemory}
+use Rattle.wasm_meaning.specs.Prelude.{GrowTable, Entry, Running, Mark, Opening, Waiting, Ended, Growing, Body, Change, Keep, SetGlobal, SetMemory, SetTable, DropElem, DropData, Act, Goes, Calls}
+use Rattle.wasm_meaning.specs.Prelude.{AsksGrow, Ends, Next, Ran, CallsOwn, WaitsGrowth, CallsPlaceholder, EndsCall, type_at, own_at, act}
 use Rattle.wasm_num.specs.Operations.{Width}
 
 -- The simulation relation of the addresses of two stores (`of`), the code relation (`named`), the
@@ -102,13 +104,17 @@ mutual
     ref_null : {w : Bool} {t : RefType} → OpRel R i j w (Instr-F.RefNull t) (Instr-F.RefNull t)
     ref_is_null : {w : Bool} → OpRel R i j w Instr-F.RefIsNull Instr-F.RefIsNull
     ref_func : {w : Bool} {n m : ℕ} → AreNamesRelated (by R w) Functions i.funcs j.funcs n m → OpRel R i j w (Instr-F.RefFunc n) (Instr-F.RefFunc m)
-    memory_init : {w : Bool} {s t n m : ℕ} → AreNamesRelated (by R w) DataSegments i.datas j.datas s t → AreNamesRelated (by R w) Memories i.mems j.mems n m → OpRel R i j w (Instr-F.MemoryInit s n) (Instr-F.MemoryInit t m)
+    memory_init : {w : Bool} {s t n m : ℕ} → AreNamesRelated (by R w) DataSegments i.datas j.datas s t → AreNamesRelated (by R w) Memories i.mems j.mems n m →
+        OpRel R i j w (Instr-F.MemoryInit s n) (Instr-F.MemoryInit t m)
     data_drop : {w : Bool} {s t : ℕ} → AreNamesRelated (by R w) DataSegments i.datas j.datas s t → OpRel R i j w (Instr-F.DataDrop s) (Instr-F.DataDrop t)
-    memory_copy : {w : Bool} {s t n m : ℕ} → AreNamesRelated (by R w) Memories i.mems j.mems n m → AreNamesRelated (by R w) Memories i.mems j.mems s t → OpRel R i j w (Instr-F.MemoryCopy n s) (Instr-F.MemoryCopy m t)
+    memory_copy : {w : Bool} {s t n m : ℕ} → AreNamesRelated (by R w) Memories i.mems j.mems n m → AreNamesRelated (by R w) Memories i.mems j.mems s t →
+        OpRel R i j w (Instr-F.MemoryCopy n s) (Instr-F.MemoryCopy m t)
     memory_fill : {w : Bool} {n m : ℕ} → AreNamesRelated (by R w) Memories i.mems j.mems n m → OpRel R i j w (Instr-F.MemoryFill n) (Instr-F.MemoryFill m)
-    table_init : {w : Bool} {s t n m : ℕ} → AreNamesRelated (by R w) ElementSegments i.elems j.elems s t → AreNamesRelated (by R w) Tables i.tables j.tables n m → OpRel R i j w (Instr-F.TableInit s n) (Instr-F.TableInit t m)
+    table_init : {w : Bool} {s t n m : ℕ} → AreNamesRelated (by R w) ElementSegments i.elems j.elems s t → AreNamesRelated (by R w) Tables i.tables j.tables n m →
+        OpRel R i j w (Instr-F.TableInit s n) (Instr-F.TableInit t m)
     elem_drop : {w : Bool} {s t : ℕ} → AreNamesRelated (by R w) ElementSegments i.elems j.elems s t → OpRel R i j w (Instr-F.ElemDrop s) (Instr-F.ElemDrop t)
-    table_copy : {w : Bool} {s t n m : ℕ} → AreNamesRelated (by R w) Tables i.tables j.tables n m → AreNamesRelated (by R w) Tables i.tables j.tables s t → OpRel R i j w (Instr-F.TableCopy n s) (Instr-F.TableCopy m t)
+    table_copy : {w : Bool} {s t n m : ℕ} → AreNamesRelated (by R w) Tables i.tables j.tables n m → AreNamesRelated (by R w) Tables i.tables j.tables s t →
+        OpRel R i j w (Instr-F.TableCopy n s) (Instr-F.TableCopy m t)
     table_grow : {w : Bool} {n m : ℕ} → AreNamesRelated (by R w) Tables i.tables j.tables n m → OpRel R i j w (Instr-F.TableGrow n) (Instr-F.TableGrow m)
     table_size : {w : Bool} {n m : ℕ} → AreNamesRelated (by R w) Tables i.tables j.tables n m → OpRel R i j w (Instr-F.TableSize n) (Instr-F.TableSize m)
     table_fill : {w : Bool} {n m : ℕ} → AreNamesRelated (by R w) Tables i.tables j.tables n m → OpRel R i j w (Instr-F.TableFill n) (Instr-F.TableFill m)
@@ -119,7 +125,8 @@ mutual
     end : CodeRel R i j [] []
     then : {o p : Instr} {c d : List Instr} → OpRel R i j false (out-Instr o) (out-Instr p) → CodeRel R i j c d → CodeRel R i j (o ∷ c) (p ∷ d)
     -- Code that may stand there replaces a call of an opaque function.
-    instead : {o : Instr} {n a : ℕ} {c d : List Instr} (e : List Instr) → out-Instr o ≡ Instr-F.Call n → slice_get i.funcs n ≡ Some a → R.listed a → R.stands j a e → CodeRel R i j c d → CodeRel R i j (o ∷ c) (e ++ d)
+    instead : {o : Instr} {n a : ℕ} {c d : List Instr} (e : List Instr) → out-Instr o ≡ Instr-F.Call n → slice_get i.funcs n ≡ Some a → R.listed a → R.stands j a e → CodeRel R i j c d →
+        CodeRel R i j (o ∷ c) (e ++ d)
 
 pub data FuncRel (R : Pairing) : Func → Func → Type 0 where
   defined : {t : FuncType} {i j : Inst} {ls : List ValType} {c d : List Instr} → CodeRel R i j c d → FuncRel R (Code t i ls c) (Code t j ls d)
@@ -206,7 +213,8 @@ ActRel R = ActRelBy R (ChangeRel R)
 -- that `B` relates.
 pub data NextRelBy (R : Pairing) (S : Store → Store → Type 0) (B : Store → Store → List Entry → List Entry → Type 0) : Next → Next → Type 0 where
   ran : {s t : Store} {es fs : List Entry} → S s t → B s t es fs → NextRelBy R S B (Ran s es) (Ran t fs)
-  asked : {p : Pair} {u : FuncType} {vs ws : List Val} {s t : Store} {es fs : List Entry} → ListRel (ValRel R) vs ws → S s t → B s t es fs → NextRelBy R S B (CallsOwn p u vs s es) (CallsOwn p u ws t fs)
+  asked : {p : Pair} {u : FuncType} {vs ws : List Val} {s t : Store} {es fs : List Entry} → ListRel (ValRel R) vs ws → S s t → B s t es fs →
+      NextRelBy R S B (CallsOwn p u vs s es) (CallsOwn p u ws t fs)
   asked_grow : {g h : Growth} {m n : ℕ} {s t : Store} {es fs : List Entry} → GrowthRel R g h → S s t → B s t es fs → NextRelBy R S B (WaitsGrowth g m n s es) (WaitsGrowth h m n t fs)
   loads : {n : ℕ} {vs ws : List Val} {s t : Store} {es fs : List Entry} → ListRel (ValRel R) vs ws → S s t → B s t es fs → NextRelBy R S B (CallsPlaceholder n vs s es) (CallsPlaceholder n ws t fs)
   returned : {vs ws : List Val} {s t : Store} {es fs : List Entry} → ListRel (ValRel R) vs ws → S s t → B s t es fs → NextRelBy R S B (EndsCall vs s es) (EndsCall ws t fs)

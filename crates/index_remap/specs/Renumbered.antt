@@ -3,7 +3,8 @@
 -- of every list.
 use Rattle.std.specs.Prelude.{ℕ, List, map, length, slice_index, Option, Some, None, Bool, true, ◌&&◌, nat_lt}
 use Rattle.std.specs.List.{list_all}
-use Rattle.wasm_tree_spec.specs.Prelude.{Space, Types, Functions, Tables, Memories, Globals, ElementSegments, DataSegments, Operand, block_operands, mapped_all, operands_pass, all_operands_pass, BlockType, FuncType, MemArg, Instr, Import, ImportDesc, Func, ConstExpr, GlobalDef, Export, ExportDesc, ElemMode, ElemSeg, DataMode, DataSeg, Module}
+use Rattle.wasm_tree_spec.specs.Prelude.{Space, Types, Functions, Tables, Memories, Globals, ElementSegments, DataSegments, Operand, block_operands, mapped_all, operands_pass, all_operands_pass}
+use Rattle.wasm_tree_spec.specs.Prelude.{BlockType, FuncType, MemArg, Instr, Import, ImportDesc, Func, ConstExpr, GlobalDef, Export, ExportDesc, ElemMode, ElemSeg, DataMode, DataSeg, Module}
 use Rattle.wasm_tree.specs.Operands.{map_arg, map_block, mapped}
 use Rattle.wasm_tree.specs.declared.module.ImportDesc.TheVariants as im
 use Rattle.wasm_tree.specs.declared.module.ConstExpr.TheVariants as const

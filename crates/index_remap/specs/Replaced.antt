@@ -4,7 +4,10 @@ use Rattle.std.specs.Prelude.{◌≡◌, ℕ, Bool, true, false, ◌&&◌, IsTru
 use Rattle.base_lists.specs.Members.{is_among}
 use Rattle.std.specs.List.{list_any}
 use Rattle.base_lists.specs.Every.{Every}
-use Rattle.wasm_tree_spec.specs.Prelude.{Space, Operand, operands, ValType, FuncType, Instr, Row_of-Instr, end_of-Instr, more_of-Instr, Block, Block', Loop, Loop', If, If', Call, Unreachable, Nop, Br, BrIf, BrTable, Return, CallIndirect, Drop, Select, SelectTyped, LocalGet, LocalSet, LocalTee, GlobalGet, GlobalSet, TableGet, TableSet, Load, Store, MemorySize, MemoryGrow, I32Const, I64Const, Un, Bin, RefNull, RefIsNull, RefFunc, MemoryInit, DataDrop, MemoryCopy, MemoryFill, TableInit, ElemDrop, TableCopy, TableGrow, TableSize, TableFill}
+use Rattle.wasm_tree_spec.specs.Prelude.{Space, Operand, operands, ValType, FuncType, Instr, Row_of-Instr, end_of-Instr, more_of-Instr, Block, Block', Loop, Loop', If, If', Call, Unreachable, Nop, Br}
+use Rattle.wasm_tree_spec.specs.Prelude.{BrIf, BrTable, Return, CallIndirect, Drop, Select, SelectTyped, LocalGet, LocalSet, LocalTee, GlobalGet, GlobalSet, TableGet, TableSet, Load, Store}
+use Rattle.wasm_tree_spec.specs.Prelude.{MemorySize, MemoryGrow, I32Const, I64Const, Un, Bin, RefNull, RefIsNull, RefFunc, MemoryInit, DataDrop, MemoryCopy, MemoryFill, TableInit, ElemDrop, TableCopy}
+use Rattle.wasm_tree_spec.specs.Prelude.{TableGrow, TableSize, TableFill}
 use Rattle.wasm_tree.specs.declared.instr.Instr.TheOpen.{Instr-F}
 use Rattle.wasm_valid_bodies.specs.Typing.{Signature, signature_of, Context, WellTyped}
 use Rattle.wasm_meaning.specs.Prelude.{Inst}
@@ -48,7 +51,8 @@ module _ (types : List FuncType) (m : Remap) (listed : List ℕ) (codes : Codes)
     DenotesOne labels (Block' ty n body) code = (b : List Instr) × RowReplaced (block_label (signature_of types ty) ∷ labels) body b × (code ≡ Block (new_type m ty) b ∷ [])
     DenotesOne labels (Loop' ty n body) code = (b : List Instr) × RowReplaced (loop_label (signature_of types ty) ∷ labels) body b × (code ≡ Loop (new_type m ty) b ∷ [])
     DenotesOne labels (If' ty n body k other) code =
-        (b o : List Instr) × RowReplaced (block_label (signature_of types ty) ∷ labels) body b × RowReplaced (block_label (signature_of types ty) ∷ labels) other o × (code ≡ If (new_type m ty) b o ∷ [])
+        (b o : List Instr) × RowReplaced (block_label (signature_of types ty) ∷ labels) body b × RowReplaced (block_label (signature_of types ty) ∷ labels) other o ×
+        (code ≡ If (new_type m ty) b o ∷ [])
     DenotesOne labels (Call f) code = CallReplaced m (is_among listed f) codes labels f code
     DenotesOne labels Unreachable code = code ≡ renumbered m Unreachable ∷ []
     DenotesOne labels Nop code = code ≡ renumbered m Nop ∷ []
@@ -124,7 +128,8 @@ OthersNamed R m listed i j layer = Every (λ o. OtherNamed R m (is_opaque_call l
 -- Each code that may replace a call of a function of the list may stand in place of it, over the
 -- second instance.
 abbrev pub ReplacementCodesFit : Pairing → List ℕ → Codes → Inst → Inst → Type 0
-ReplacementCodesFit R listed codes i j = (labels : Labels) (f a : ℕ) (code : List Instr) → IsTrue (is_among listed f) → Contains (codes labels f) code → slice_get i.funcs f ≡ Some a → R.stands j a code
+ReplacementCodesFit R listed codes i j = (labels : Labels) (f a : ℕ) (code : List Instr) → IsTrue (is_among listed f) → Contains (codes labels f) code → slice_get i.funcs f ≡ Some a →
+    R.stands j a code
 
 -- ---- what keeps it well typed ----
 

@@ -7,7 +7,8 @@ use Rattle.std.specs.Prelude.{ℤ}
 use Rattle.wasm_tree_spec.specs.Prelude.{Space, ValType, FuncType, Instr, Call, LocalGet, I32Const, CallIndirect}
 use Rattle.wasm_num.specs.Operations.{wrapped}
 use Rattle.base_simulation.specs.Machines.{events_of, state_after}
-use Rattle.wasm_meaning.specs.Prelude.{Outcome, Gives, FuncRef, Val, Inst, Func, Code, Table, Store, Level, Frame, Entry, Running, Next, Ran, typed, pop_typed, type_of_func, enter_at, step, Run, transition, tick, Shown, Owned, received_all}
+use Rattle.wasm_meaning.specs.Prelude.{Outcome, Gives, FuncRef, Val, Inst, Func, Code, Table, Store, Level, Frame, Entry, Running, Next, Ran, typed, pop_typed, type_of_func, enter_at, step, Run}
+use Rattle.wasm_meaning.specs.Prelude.{transition, tick, Shown, Owned, received_all}
 use Rattle.index_remap.specs.Related.{Pairing, OneToOne, ResRel, ListRel, ValRel, CodeRel, StoreRel, FrameRel, EntryRel, NextRel}
 use Rattle.index_remap.specs.RelatedRuns.{turned, KeepsOthers, IsBegun, RunRel}
 use Rattle.index_remap.specs.Laws.{CodeTest, passed_with, EntriesKnown}
@@ -24,7 +25,8 @@ passing inst locals results = record { inst = inst; locals = locals; results = r
 pub data WithPassing (R : Pairing) : List Entry → List Entry → Type 0 where
   nil : WithPassing R [] []
   cons : {e f : Entry} {es fs : List Entry} → EntryRel R e f → WithPassing R es fs → WithPassing R (e ∷ es) (f ∷ fs)
-  through : {f g : Frame} {es fs : List Entry} → FrameRel R f g → (inst : Inst) (locals : List Val) → WithPassing R es fs → WithPassing R (Running f ∷ es) (Running g ∷ (Running (passing inst locals g.results) ∷ fs))
+  through : {f g : Frame} {es fs : List Entry} → FrameRel R f g → (inst : Inst) (locals : List Val) → WithPassing R es fs →
+      WithPassing R (Running f ∷ es) (Running g ∷ (Running (passing inst locals g.results) ∷ fs))
 
 abbrev pub FramesBetween : Pairing → Store → Store → List Entry → List Entry → Type 0
 FramesBetween R s t = WithPassing R
@@ -46,7 +48,8 @@ pub record AnsweredInTwo (R : Pairing) (r q : Run) : Type 0 where
 -- instructions name related addresses and the relation is one to one, functions included.
 abbrev pub PassingFramesStutter : Type 0
 PassingFramesStutter =
-    (of named : Space → ℕ → ℕ → Bool) (l : List ℕ) (stands : CodeTest) → OneToOne (passed_with of named l stands) → (r q : Run) → RunRel (passed_with of named l stands) (FramesBetween (passed_with of named l stands)) (FramesBetween (passed_with of named l stands)) r q →
+    (of named : Space → ℕ → ℕ → Bool) (l : List ℕ) (stands : CodeTest) → OneToOne (passed_with of named l stands) → (r q : Run) →
+    RunRel (passed_with of named l stands) (FramesBetween (passed_with of named l stands)) (FramesBetween (passed_with of named l stands)) r q →
     TickSkips (passed_with of named l stands) r r.entries → EntriesKnown (passed_with of named l stands) r.entries q.entries → AnsweredInTwo (passed_with of named l stands) r q
 
 -- ---- calls through a slot ----
@@ -131,8 +134,10 @@ pub record CodeAt (R : Pairing) (s t : Store) (u : FuncType) (a c : ℕ) : Type 
 -- related, with a passing frame between.
 abbrev pub TrampolineCallsAgree : Type 0
 TrampolineCallsAgree =
-    (of named : Space → ℕ → ℕ → Bool) (l : List ℕ) (stands : CodeTest) (s t : Store) (es fs : List Entry) → StoreRel (passed_with of named l stands) s t → WithPassing (passed_with of named l stands) es fs →
-    (inst : Inst) (u : FuncType) (ty table : ℕ) (slot : ℤ) (a b c : ℕ) → slice_get t.funcs b ≡ Some (trampoline inst u ty table slot) → InSlot t inst u ty table slot c → CodeAt (passed_with of named l stands) s t u a c →
+    (of named : Space → ℕ → ℕ → Bool) (l : List ℕ) (stands : CodeTest) (s t : Store) (es fs : List Entry) → StoreRel (passed_with of named l stands) s t →
+    WithPassing (passed_with of named l stands) es fs →
+    (inst : Inst) (u : FuncType) (ty table : ℕ) (slot : ℤ) (a b c : ℕ) → slice_get t.funcs b ≡ Some (trampoline inst u ty table slot) → InSlot t inst u ty table slot c →
+    CodeAt (passed_with of named l stands) s t u a c →
     (vs ws : List Val) → ListRel (ValRel (passed_with of named l stands)) vs ws → HaveTypes u.params ws →
     ResRel (NextRel (passed_with of named l stands) (FramesBetween (passed_with of named l stands))) (enter_at s a vs es) (go_on (length u.params + 2) (enter_at t b ws fs))
 
@@ -142,9 +147,11 @@ TrampolineCallsAgree =
 abbrev pub SlotCallsAgree : Type 0
 SlotCallsAgree =
     (of named : Space → ℕ → ℕ → Bool) (l : List ℕ) (stands : CodeTest) (s t : Store) (es fs : List Entry) → StoreRel (passed_with of named l stands) s t →
-    (f g : Frame) (o m : Level) (os ms : List Level) (c d : List Instr) → WithPassing (passed_with of named l stands) (Running (at_code f o os o.values c) ∷ es) (Running (at_code g m ms m.values d) ∷ fs) →
+    (f g : Frame) (o m : Level) (os ms : List Level) (c d : List Instr) →
+    WithPassing (passed_with of named l stands) (Running (at_code f o os o.values c) ∷ es) (Running (at_code g m ms m.values d) ∷ fs) →
     (u : FuncType) (n ty table : ℕ) (slot : ℤ) (a b : ℕ) → slice_get f.inst.funcs n ≡ Some a → InSlot t g.inst u ty table slot b → CodeAt (passed_with of named l stands) s t u a b →
-    ResRel (NextRel (passed_with of named l stands) (FramesBetween (passed_with of named l stands))) (step s (Running (at_code f o os o.values (Call n ∷ c)) ∷ es)) (go_on 2 (Gives (Ran t (Running (at_code g m ms m.values (slot_call ty table slot ++ d)) ∷ fs))))
+    ResRel (NextRel (passed_with of named l stands) (FramesBetween (passed_with of named l stands))) (step s (Running (at_code f o os o.values (Call n ∷ c)) ∷ es))
+    (go_on 2 (Gives (Ran t (Running (at_code g m ms m.values (slot_call ty table slot ++ d)) ∷ fs))))
 
 -- From related stores and stacks, both make direct calls of functions with related code, as when a
 -- function that was moved calls another one that was moved. The steps give related results, or both
@@ -152,6 +159,8 @@ SlotCallsAgree =
 abbrev pub DirectCallsAgree : Type 0
 DirectCallsAgree =
     (of named : Space → ℕ → ℕ → Bool) (l : List ℕ) (stands : CodeTest) (s t : Store) (es fs : List Entry) → StoreRel (passed_with of named l stands) s t →
-    (f g : Frame) (o m : Level) (os ms : List Level) (c d : List Instr) → WithPassing (passed_with of named l stands) (Running (at_code f o os o.values c) ∷ es) (Running (at_code g m ms m.values d) ∷ fs) →
+    (f g : Frame) (o m : Level) (os ms : List Level) (c d : List Instr) →
+    WithPassing (passed_with of named l stands) (Running (at_code f o os o.values c) ∷ es) (Running (at_code g m ms m.values d) ∷ fs) →
     (u : FuncType) (n k a b : ℕ) → slice_get f.inst.funcs n ≡ Some a → slice_get g.inst.funcs k ≡ Some b → CodeAt (passed_with of named l stands) s t u a b →
-    ResRel (NextRel (passed_with of named l stands) (FramesBetween (passed_with of named l stands))) (step s (Running (at_code f o os o.values (Call n ∷ c)) ∷ es)) (step t (Running (at_code g m ms m.values (Call k ∷ d)) ∷ fs))
+    ResRel (NextRel (passed_with of named l stands) (FramesBetween (passed_with of named l stands))) (step s (Running (at_code f o os o.values (Call n ∷ c)) ∷ es))
+    (step t (Running (at_code g m ms m.values (Call k ∷ d)) ∷ fs))

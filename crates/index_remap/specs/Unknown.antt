@@ -8,7 +8,8 @@ use Rattle.std.specs.List.{list_any, filter}
 use Rattle.wasm_tree_spec.specs.Prelude.{Space, Functions, Tables, Memories, Globals, ElementSegments, DataSegments, FuncType, Instr, out-Instr}
 use Rattle.wasm_tree.specs.declared.instr.Instr.TheOpen.{Instr-F}
 use Rattle.wasm_num.specs.Operations.{W32}
-use Rattle.wasm_meaning.specs.Prelude.{Outcome, Gives, IllTyped, bind, with_entry, Val, RefVal, Inst, Table, Global, Store, Level, Entry, Running, Env, Change, SetGlobal, SetTable, Act, Goes, Next, Ran, pop_num, pop_three, type_at, own_at, act, changed, step}
+use Rattle.wasm_meaning.specs.Prelude.{Outcome, Gives, IllTyped, bind, with_entry, Val, RefVal, Inst, Table, Global, Store, Level, Entry, Running, Env, Change, SetGlobal, SetTable, Act, Goes, Next}
+use Rattle.wasm_meaning.specs.Prelude.{Ran, pop_num, pop_three, type_at, own_at, act, changed, step}
 use Rattle.index_remap.specs.Related.{Pairing, OneToOneWhereWritten, OptRel, BothRel, ResRel, ListRel, RefRel, ValRel, FuncRel, StoreRel, EntryRel, ChangeRel, ActRelBy, NextRelBy, TopSkips}
 use Rattle.index_remap.specs.Laws.{passed, Above, Touches, EntriesKnown}
 
@@ -143,7 +144,8 @@ pub data GoesOn : ℕ → Store → List Entry → Store → List Entry → Type
 -- related addresses, with what is unknown before and after them.
 pub data KnownSteps (R : Pairing) : ℕ → Unknowns → Store → List Entry → Unknowns → Store → List Entry → Type 0 where
   none_left : {u : Unknowns} {s : Store} {es : List Entry} → KnownSteps R 0 u s es u s es
-  known_step : {n : ℕ} {u v : Unknowns} {s t r : Store} {es fs gs : List Entry} → StepReadsKnown u s es → TopSkips R s es → ((hs : List Entry) → ListRel (EntryRel R) es hs → EntriesKnown R es hs) → step s es ≡ Gives (Ran t fs) →
+  known_step : {n : ℕ} {u v : Unknowns} {s t r : Store} {es fs gs : List Entry} → StepReadsKnown u s es → TopSkips R s es → ((hs : List Entry) → ListRel (EntryRel R) es hs → EntriesKnown R es hs) →
+      step s es ≡ Gives (Ran t fs) →
       KnownSteps R n (left_unknown u s es) t fs v r gs → KnownSteps R (suc n) u s es v r gs
 
 -- n steps lead from `t` and `fs` to a store that is related to `s` except at unknown places, and to
@@ -176,7 +178,8 @@ SetGlobalsAreKnown =
 abbrev pub StepsAgreeOff : Type 0
 StepsAgreeOff =
     (of named : Space → ℕ → ℕ → Bool) (l : List ℕ) → OneToOneWhereWritten (passed of named l) → (u : Unknowns) (s t : Store) (es fs cs ds : List Entry) →
-    StoreRelOff (passed of named l) u s t → ListRel (EntryRel (passed of named l)) es fs → Touches s es cs ds → TopSkips (passed of named l) s es → EntriesKnown (passed of named l) es fs → StepReadsKnown u s es →
+    StoreRelOff (passed of named l) u s t → ListRel (EntryRel (passed of named l)) es fs → Touches s es cs ds → TopSkips (passed of named l) s es → EntriesKnown (passed of named l) es fs →
+    StepReadsKnown u s es →
     ResRel (NextOff (passed of named l) (left_unknown u s es) (Above (passed of named l) cs ds)) (step s (es ++ cs)) (step t (fs ++ ds))
 
 -- The steps of `KnownSteps` are followed one by one from a store that is related except at unknown

@@ -2,7 +2,8 @@
 
 ghost use Rattle.std.specs.Prelude.{◌≡◌, IsTrue, Bool};
 ghost use Rattle.index_remap.specs.declared.remap.Remap.{Remap as Maps};
-ghost use Rattle.index_remap.specs.Renumbered.{new_const, new_import, new_func, new_global, new_export, new_elem, new_data, fits_const, fits_import, fits_func, fits_global, fits_export, fits_elem, fits_data};
+ghost use Rattle.index_remap.specs.Renumbered.{new_const, new_import, new_func, new_global, new_export, new_elem, new_data, fits_const, fits_import, fits_func, fits_global, fits_export, fits_elem};
+ghost use Rattle.index_remap.specs.Renumbered.{fits_data};
 
 use crate::in_place::{rewrite_all, rewrite_each};
 use crate::remap::{

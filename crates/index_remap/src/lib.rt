@@ -8,7 +8,8 @@ mod in_place;
 mod remap;
 mod renumbering;
 
-ghost use Rattle.index_remap.specs.Laws.{CodeIsRelatedToItself, NamedAreKnown, OthersStay, RelatedRunsHaveEqualTraces, RelatedTicksAgree, RenumberedCodeIsRelated, ReplacedCodeIsRelated, ShownAgree, StepsAgree, TrapsAgree, TypingIsKept, NotOpaqueAreRenumbered};
+ghost use Rattle.index_remap.specs.Laws.{CodeIsRelatedToItself, NamedAreKnown, OthersStay, RelatedRunsHaveEqualTraces, RelatedTicksAgree, RenumberedCodeIsRelated, ReplacedCodeIsRelated, ShownAgree};
+ghost use Rattle.index_remap.specs.Laws.{StepsAgree, TrapsAgree, TypingIsKept, NotOpaqueAreRenumbered};
 ghost use Rattle.index_remap.specs.OpaqueRuns.{RunsWithOpaqueFunctionsAgree};
 ghost use Rattle.index_remap.specs.Trampolines.{
   DirectCallsAgree,

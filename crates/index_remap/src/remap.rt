@@ -1,7 +1,8 @@
 // The maps of indices, and the parts of a module that have only a few indices.
 
 ghost use Rattle.std.specs.Prelude.{◌≡◌, ◌<◌, length, slice_index, IsTrue};
-ghost use Rattle.index_remap.specs.Renumbered.{new_type, new_memarg, new_const, new_import_desc, new_export_desc, new_elem_mode, new_data_mode, new_start, fits_type, has, fits_const, fits_import_desc, fits_export_desc, fits_elem_mode, fits_data_mode, fits_start};
+ghost use Rattle.index_remap.specs.Renumbered.{new_type, new_memarg, new_const, new_import_desc, new_export_desc, new_elem_mode, new_data_mode, new_start, fits_type, has, fits_const};
+ghost use Rattle.index_remap.specs.Renumbered.{fits_import_desc, fits_export_desc, fits_elem_mode, fits_data_mode, fits_start};
 
 use wasm_bytes::Items;
 use wasm_tree::{BlockType, ConstExpr, DataMode, ElemMode, ExportDesc, ImportDesc, MemArg};

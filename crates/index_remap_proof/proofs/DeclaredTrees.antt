@@ -1,5 +1,6 @@
 -- Trees whose references are declared.
-use Rattle.base_lists.proofs.Common.{◌≡◌, ℕ, zero, suc, ◌+◌, ◌^◌, ◌<◌, Bool, true, false, ◌&&◌, not, cond, nat_eq, nat_lt, List, [], ◌∷◌, ◌++◌, length, map, Some, ◌⊎◌, inl, inr, ⊎_elim, refl, sym, ap, ◌∙◌, subst, arith, append-nil, slice_get, replicate, filter, filter_map, range_with_len, lt-ltb, flat_map-append, map-append, slice_get_within, slice_get_there, map_from, append_at_left, replicate_at, and_from, cases_Bool, left_either, right_either, among_left, among_right, among_joined}
+use Rattle.base_lists.proofs.Common.{◌≡◌, ℕ, zero, suc, ◌+◌, ◌^◌, ◌<◌, Bool, true, false, ◌&&◌, not, cond, nat_eq, nat_lt, List, [], ◌∷◌, ◌++◌, length, map, Some, ◌⊎◌, inl, inr, ⊎_elim, refl, sym, ap, ◌∙◌, subst, arith, append-nil, slice_get, replicate, filter, filter_map, range_with_len, lt-ltb}
+use Rattle.base_lists.proofs.Common.{flat_map-append, map-append, slice_get_within, slice_get_there, map_from, append_at_left, replicate_at, and_from, cases_Bool, left_either, right_either, among_left, among_right, among_joined}
 use Rattle.base_lists.proofs.Bools.{and_not}
 use Rattle.base_lists.specs.Members.{is_among}
 use Rattle.base_lists.proofs.Members.{among_either, joined_among, chosen_among}

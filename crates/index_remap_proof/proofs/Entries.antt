@@ -1,6 +1,7 @@
 -- What is well typed, or valid, names only indices of its spaces, so that a map with as many entries has one for each.
 use Rattle.base_lists.proofs.Common.{◌≡◌, ℕ, true, nat_lt, List, [], ◌∷◌, Option, Some, None, refl, sym, arith, true≢false, slice_get, ltb-true, lt-ltb, and_then_is, left_true, right_true, option_map_is, only_true, only_rest}
-use Rattle.wasm_tree_spec.specs.Prelude.{RefType, ValType, FuncType, BlockType, Operand, Layers, RowLayers, ListLayers, PassesLayerByLayer, operands, block_operands, Instr, Row_of-Instr, end_of-Instr, more_of-Instr, Block', Loop', If', Call, CallIndirect, GlobalGet, GlobalSet, TableGet, TableSet, Load, Store, MemorySize, MemoryGrow, RefFunc, MemoryInit, DataDrop, MemoryCopy, MemoryFill, TableInit, ElemDrop, TableCopy, TableGrow, TableSize, TableFill}
+use Rattle.wasm_tree_spec.specs.Prelude.{RefType, ValType, FuncType, BlockType, Operand, Layers, RowLayers, ListLayers, PassesLayerByLayer, operands, block_operands, Instr, Row_of-Instr, end_of-Instr, more_of-Instr, Block', Loop', If', Call, CallIndirect, GlobalGet, GlobalSet, TableGet, TableSet}
+use Rattle.wasm_tree_spec.specs.Prelude.{Load, Store, MemorySize, MemoryGrow, RefFunc, MemoryInit, DataDrop, MemoryCopy, MemoryFill, TableInit, ElemDrop, TableCopy, TableGrow, TableSize, TableFill}
 use Rattle.wasm_tree.specs.declared.types.BlockType.TheVariants as bt
 use Rattle.base_lists.specs.Every.{Every}
 use Rattle.wasm_tree.specs.declared.instr.Instr.TheOpen.{Instr-F}

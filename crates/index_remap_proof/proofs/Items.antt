@@ -1,7 +1,8 @@
 -- Items that come from others are valid where those are.
 use Rattle.base_lists.proofs.Common.{◌≡◌, ℕ, ◌<◌, ◌≤◌, Bool, true, false, ◌&&◌, not, nat_lt, List, [], length, Some, refl, sym, ap, ◌∙◌, subst, arith, IsTrue, slice_get, slice_index, replicate, ltb-true, lt-ltb, length-map, replicate_at, keeps_then, keeps_only}
 use Rattle.base_kept.proofs.Marks.{named_within}
-use Rattle.wasm_tree_spec.specs.Prelude.{RefType, ValType, Ref, FuncType, Instr, ImportDesc, ExportDesc, ElemMode, ElemSeg, DataMode, Space, Types, Functions, Tables, Memories, Globals, ElementSegments, DataSegments, ConstExpr, Func, Module, funcs_of, tables_of, memories_of, globals_of, imported_globals, type_of_func, ListLayers}
+use Rattle.wasm_tree_spec.specs.Prelude.{RefType, ValType, Ref, FuncType, Instr, ImportDesc, ExportDesc, ElemMode, ElemSeg, DataMode, Space, Types, Functions, Tables, Memories, Globals, ElementSegments, DataSegments, ConstExpr, Func, Module, funcs_of, tables_of, memories_of, globals_of}
+use Rattle.wasm_tree_spec.specs.Prelude.{imported_globals, type_of_func, ListLayers}
 use Rattle.wasm_tree.specs.declared.module.ImportDesc.TheVariants as im
 use Rattle.wasm_tree.specs.declared.module.ExportDesc.TheVariants as ex
 use Rattle.wasm_tree.specs.declared.module.ConstExpr.TheVariants as const

@@ -1,5 +1,6 @@
 -- A valid tree with other indices: each item comes from the one that it was. And the indices that a valid tree names.
-use Rattle.base_lists.proofs.Common.{◌≡◌, ℕ, zero, suc, ◌<◌, Bool, true, ◌&&◌, List, [], ◌∷◌, ◌++◌, length, map, take, Option, Some, None, refl, sym, ap, ap₂, ◌∙◌, subst, arith, slice_get, slice_index, Contains, option_map, flat_map, filter_map, cons_option, ltb-true, length-map, map-append, slice_get_there, map_at, map_from, list_all_each, list_all, and_then_is, left_true, right_true, only_true}
+use Rattle.base_lists.proofs.Common.{◌≡◌, ℕ, zero, suc, ◌<◌, Bool, true, ◌&&◌, List, [], ◌∷◌, ◌++◌, length, map, take, Option, Some, None, refl, sym, ap, ap₂, ◌∙◌, subst, arith, slice_get, slice_index, Contains, option_map, flat_map, filter_map, cons_option, ltb-true, length-map, map-append}
+use Rattle.base_lists.proofs.Common.{slice_get_there, map_at, map_from, list_all_each, list_all, and_then_is, left_true, right_true, only_true}
 use Rattle.base_lists.specs.Members.{is_among}
 use Rattle.base_lists.proofs.Members.{among_map}
 use Rattle.base_kept.proofs.Marks.{among_is_marked, marked_is_among, named_within}
@@ -13,7 +14,8 @@ use Rattle.wasm_valid.specs.declared.kinds.ItemKind.{ItemKind}
 use Rattle.wasm_valid.specs.declared.kinds.ItemKind.TheVariants as kind
 use Rattle.wasm_valid.specs.Prelude.{const_type, const_func, export_func, elem_refs, global_refs, export_refs, refs_of, HoldsAt, IsValid, count_of, start_count, ValidWhereItemsHold}
 use Rattle.index_remap.specs.declared.remap.Remap.{Remap}
-use Rattle.index_remap.specs.Prelude.{has, has_entry, fits_const, fits_func, fits_import, fits_import_desc, fits_global, fits_export, fits_export_desc, fits_elem, fits_elem_mode, fits_data, fits_start, fits_tree, new_const, new_func, new_import, new_global, new_export, new_export_desc, new_elem, new_elem_mode, new_data, new_data_mode, new_start, renumbered_tree}
+use Rattle.index_remap.specs.Prelude.{has, has_entry, fits_const, fits_func, fits_import, fits_import_desc, fits_global, fits_export, fits_export_desc, fits_elem, fits_elem_mode, fits_data, fits_start, fits_tree, new_const, new_func, new_import, new_global, new_export, new_export_desc, new_elem}
+use Rattle.index_remap.specs.Prelude.{new_elem_mode, new_data, new_data_mode, new_start, renumbered_tree}
 use Rattle.index_remap.specs.Renumbered.{fits_data_mode}
 use Rattle.index_remap_proof.specs.Indices.{Indices, with_entry, ConstNamesOnly, ImportNamesOnly, ExportNamesOnly, ElemModeNamesOnly, DataModeNamesOnly, FuncNamesOnly, TreeNamesOnly}
 use Rattle.index_remap_proof.specs.Trees.{TreesAgree, RefsAgree, ImportsAgree, ReadsImport, ConstComesFrom, ElemModeComesFrom, DataModeComesFrom, ItemsComeFrom, ItemComesFrom, EachItemComesFrom, active, passive, declarative}

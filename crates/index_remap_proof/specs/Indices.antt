@@ -1,7 +1,8 @@
 -- Sets of indices, and code and parts of a tree that name only indices of a set.
 use Rattle.std.specs.Prelude.{◌≡◌, ℕ, Bool, IsTrue, Some, slice_get}
 use Rattle.base_lists.specs.Every.{Every}
-use Rattle.wasm_tree_spec.specs.Prelude.{Space, Types, Functions, Tables, Memories, Globals, operands, Instr, ConstExpr, Import, ImportDesc, Func, GlobalDef, Export, ExportDesc, ElemMode, ElemSeg, DataMode, DataSeg, Module, ListLayers}
+use Rattle.wasm_tree_spec.specs.Prelude.{Space, Types, Functions, Tables, Memories, Globals, operands, Instr, ConstExpr, Import, ImportDesc, Func, GlobalDef, Export, ExportDesc, ElemMode, ElemSeg}
+use Rattle.wasm_tree_spec.specs.Prelude.{DataMode, DataSeg, Module, ListLayers}
 use Rattle.wasm_tree.specs.declared.instr.Instr.TheOpen.{Instr-F}
 use Rattle.wasm_tree.specs.declared.module.ConstExpr.TheVariants as const
 use Rattle.wasm_tree.specs.declared.module.ImportDesc.TheVariants as im

@@ -1,7 +1,8 @@
 -- When two trees agree along a map of indices, and when an item of one comes from an item of the
 -- other.
 use Rattle.std.specs.Prelude.{◌≡◌, ℕ, ◌<◌, ◌≤◌, true, IsTrue, length, map, take, Contains, Some, slice_get, slice_index}
-use Rattle.wasm_tree_spec.specs.Prelude.{Types, Functions, Tables, Memories, Globals, ElementSegments, DataSegments, ConstExpr, Import, Func, GlobalDef, Export, ElemMode, ElemSeg, DataMode, DataSeg, Module, funcs_of, tables_of, memories_of, globals_of, imported_globals, type_of_func}
+use Rattle.wasm_tree_spec.specs.Prelude.{Types, Functions, Tables, Memories, Globals, ElementSegments, DataSegments, ConstExpr, Import, Func, GlobalDef, Export, ElemMode, ElemSeg, DataMode, DataSeg}
+use Rattle.wasm_tree_spec.specs.Prelude.{Module, funcs_of, tables_of, memories_of, globals_of, imported_globals, type_of_func}
 use Rattle.wasm_tree.specs.declared.module.ConstExpr.TheVariants as const
 use Rattle.wasm_tree.specs.declared.module.ElemMode.TheVariants as elem
 use Rattle.wasm_tree.specs.declared.module.DataMode.TheVariants as «data»
@@ -89,7 +90,8 @@ ItemComesFrom m kept t u kind.Memory i j = slice_get u.mems j ≡ slice_get t.me
 ItemComesFrom m kept t u kind.Global i j =
     (g h : GlobalDef) × (slice_get t.globals i ≡ Some g) × (slice_get u.globals j ≡ Some h) × (h.ty.ty ≡ g.ty.ty) × ConstComesFrom t u g.init h.init
 ItemComesFrom m kept t u kind.Export i j =
-    (e f : Export) × (slice_get t.exports i ≡ Some e) × (slice_get u.exports j ≡ Some f) × ExportNamesOnly kept e.desc × (f.desc ≡ new_export_desc m e.desc) × (Contains (map (λ x. x.name) (take j u.exports)) f.name → ⊥)
+    (e f : Export) × (slice_get t.exports i ≡ Some e) × (slice_get u.exports j ≡ Some f) × ExportNamesOnly kept e.desc × (f.desc ≡ new_export_desc m e.desc) ×
+    (Contains (map (λ x. x.name) (take j u.exports)) f.name → ⊥)
 ItemComesFrom m kept t u kind.Start i j = (x : ℕ) × (t.start ≡ Some x) × IsTrue (kept Functions x) × (u.start ≡ Some (slice_index m.funcs x))
 ItemComesFrom m kept t u kind.Elem i j =
     (a b : ElemSeg) × (slice_get t.elems i ≡ Some a) × (slice_get u.elems j ≡ Some b) × (b.ty ≡ a.ty) × ItemsComeFrom t u a b × ElemModeComesFrom m kept t u a.mode b.mode

@@ -37,8 +37,10 @@ use wasm_valid::valid_where_items_hold;
 /// `tree_entries`). The set may be that of the indices with an entry: a body or a tree of which
 /// every index has an entry names only these (`named`, `tree_named`).
 pub fn renumbering_keeps_typing()
-    ensures bodies { (m : Remap) (kept : Indices) (c d : Context) (is : List Instr) (ps rs : List ValType) → AgreesAlong m kept c d → ListLayers (LayerNamesOnly kept) is → WellTyped c is ps rs → WellTyped d (renumbered_all m is) ps rs }
-    ensures by_index { (m : Remap) (c d : Context) (is : List Instr) (ps rs : List ValType) → SameFrame c d → ListLayers (LayerAgrees m c d) is → WellTyped c is ps rs → WellTyped d (renumbered_all m is) ps rs }
+    ensures bodies { (m : Remap) (kept : Indices) (c d : Context) (is : List Instr) (ps rs : List ValType) → AgreesAlong m kept c d → ListLayers (LayerNamesOnly kept) is → WellTyped c is ps rs →
+        WellTyped d (renumbered_all m is) ps rs }
+    ensures by_index { (m : Remap) (c d : Context) (is : List Instr) (ps rs : List ValType) → SameFrame c d → ListLayers (LayerAgrees m c d) is → WellTyped c is ps rs →
+        WellTyped d (renumbered_all m is) ps rs }
     ensures constants { (m : Remap) (kept : Indices) (t u : Module) (e : ConstExpr) → TreesAgree m kept t u → ConstNamesOnly kept e → ReadsImport m u e → ConstComesFrom t u e (new_const m e) }
     ensures entries { (m : Remap) (c : Context) (is : List Instr) (ps rs : List ValType) → CoversContext m c → WellTyped c is ps rs → IsTrue (fits_all m is) }
     ensures tree_entries { (m : Remap) (t : Module) → IsValid t → Covers m t → IsTrue (fits_tree m t) }
@@ -59,11 +61,13 @@ pub fn renumbering_keeps_typing()
 /// valid, if it names only indices of the set, these agree with their entries, and the imported
 /// globals of the set stay imported (`renumbered`).
 pub fn renumbered_trees_are_valid()
-    ensures items { (m : Remap) (kept : Indices) (t u : Module) (k : ItemKind) (i j : ℕ) → TreesAgree m kept t u → RefsAgree m kept t u → ItemComesFrom m kept t u k i j → HoldsAt t k i → HoldsAt u k j }
+    ensures items { (m : Remap) (kept : Indices) (t u : Module) (k : ItemKind) (i j : ℕ) → TreesAgree m kept t u → RefsAgree m kept t u → ItemComesFrom m kept t u k i j → HoldsAt t k i →
+        HoldsAt u k j }
     ensures undeclared { (m : Remap) (kept : Indices) (t u : Module) (k : ItemKind) (i j : ℕ) → TreesAgree m kept t u → ItemComesFrom m kept t u k i j → HoldsAt t k i → HoldsButForReferences u k j }
     ensures trees { (m : Remap) (kept : Indices) (t u : Module) → IsValid t → TreesAgree m kept t u → RefsAgree m kept t u → EachItemComesFrom m kept t u → IsValid u }
     ensures undeclared_trees { (m : Remap) (kept : Indices) (t u : Module) → IsValid t → TreesAgree m kept t u → EachItemComesFrom m kept t u → IsValidButForReferences u }
-    ensures renumbered { (m : Remap) (kept : Indices) (t : Module) → IsValid t → TreeNamesOnly kept t → TreesAgree m kept t (renumbered_tree m t) → ImportsAgree m kept t (renumbered_tree m t) → IsValid (renumbered_tree m t) }
+    ensures renumbered { (m : Remap) (kept : Indices) (t : Module) → IsValid t → TreeNamesOnly kept t → TreesAgree m kept t (renumbered_tree m t) → ImportsAgree m kept t (renumbered_tree m t) →
+        IsValid (renumbered_tree m t) }
 {
     renumbering_keeps_typing();
     valid_where_items_hold();

@@ -1,7 +1,8 @@
 -- What the parts define and what it becomes in the merged module correspond: each definition stands in the merged module at its number among all of its space.
 use Rattle.wasm_tree_spec.specs.Prelude.{Functions, Tables, Memories, Globals, ElementSegments, DataSegments, Space, Module, GlobalDef, ElemSeg}
 use Rattle.merge_valid_proof.proofs.ByPart.{by_part_flat, by_part_at, by_part_back}
-use Rattle.base_lists.proofs.Common.{◌≡◌, refl, ℕ, suc, ◌+◌, List, ◌++◌, map, length, [], append-nil, ◌∷◌, Option, Some, inl, inr, arith, add-zero, add_next, zero-add, slice_get, all_there_at, is_some_there, slice_get_there, map_at, map_from, append_at_left, append_from, list_all_each, length-map, right_there, left_there, map-id}
+use Rattle.base_lists.proofs.Common.{◌≡◌, refl, ℕ, suc, ◌+◌, List, ◌++◌, map, length, [], append-nil, ◌∷◌, Option, Some, inl, inr, arith, add-zero, add_next, zero-add, slice_get, all_there_at, is_some_there, slice_get_there, map_at, map_from, append_at_left, append_from, list_all_each, length-map}
+use Rattle.base_lists.proofs.Common.{right_there, left_there, map-id}
 use Rattle.wasm_meaning.specs.Prelude.{Inst, Store, Part, module_at, new_func, defined_count, base, defined_before, insts_from, own_store, joined_stores, part_store, stores_from, Environment}
 use Rattle.index_remap.specs.Prelude.{declared_refs, fits_func, new_func as renumbered_func, Pairing, OptRel}
 use Rattle.merge_names.specs.declared.mode.Mode.{Mode}

@@ -1,8 +1,10 @@
 -- All imports of the parts match where all imports of the merged module do.
-use Rattle.base_lists.proofs.Common.{◌≡◌, ℕ, ◌+◌, ◌-◌, ◌≤◌, List, ◌++◌, length, Some, refl, sym, arith, Option, None, true, option_and_then, slice_get, and_then_is, map_from, append_right, same_tests, is_kept, chosen_from, has_chosen, list_all_each, list_all_from, map, map-id, copies_length, then_eq, numbers_at, ◌<◌, places_many}
+use Rattle.base_lists.proofs.Common.{◌≡◌, ℕ, ◌+◌, ◌-◌, ◌≤◌, List, ◌++◌, length, Some, refl, sym, arith, Option, None, true, option_and_then, slice_get, and_then_is, map_from, append_right, same_tests, is_kept, chosen_from, has_chosen, list_all_each, list_all_from, map, map-id, copies_length}
+use Rattle.base_lists.proofs.Common.{then_eq, numbers_at, ◌<◌, places_many}
 use Rattle.std.proofs.Common.{eq-eqb}
 use Rattle.wasm_tree_spec.specs.Prelude.{Space, Functions, Tables, Memories, Globals, FuncType, ExportDesc, Module, type_of_func, index_of_export, space_of_export, Import, imported_funcs, imported_tables, imported_memories, imported_globals}
-use Rattle.wasm_meaning.specs.Prelude.{Inst, Store, type_at, imports_of, module_at, Part, Site, import_at, is_outside, sites, linked_end, met_limits, Environment, owned_of, all_of, base, external_value_at, own_store, stores_from, outside_external_value, is_matched, defined_external_value, defined_count, Outside}
+use Rattle.wasm_meaning.specs.Prelude.{Inst, Store, type_at, imports_of, module_at, Part, Site, import_at, is_outside, sites, linked_end, met_limits, Environment, owned_of, all_of, base, external_value_at, own_store, stores_from, outside_external_value, is_matched, defined_external_value}
+use Rattle.wasm_meaning.specs.Prelude.{defined_count, Outside}
 use Rattle.world_simulation.specs.Prelude.{Instantiated, DefinedAt, HasDefinitions, one, site}
 use Rattle.merge_spec.specs.Prelude.{External, external_of, asked_at, stays, link_fault, merged_import, merged_desc, joined_module}
 use Rattle.merge_behaves_proof.proofs.MatchTypes.{type_in, fits_type, type_same, kept, kept_fits, fits_kept, site_limits, matched_is, type_fits, demands_met}

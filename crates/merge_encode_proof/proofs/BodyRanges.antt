@@ -1,7 +1,8 @@
 -- The operands of a body that is well typed are small, and its memories memory 0: what it names is there.
 use Rattle.base_lists.proofs.Common.{◌≡◌, ℕ, ◌<◌, ◌≤◌, ◌^◌, Bool, true, false, nat_eq, nat_lt, List, [], ◌∷◌, length, Option, Some, None, refl, sym, ap, ◌∙◌, arith, option_and_then, option_map, slice_get, nat_tests, slice_get_within, left_true, right_true, only_true}
 use Rattle.base_lists.specs.Every.{Every}
-use Rattle.wasm_tree_spec.specs.Prelude.{Operand, RefType, FuncType, BlockType, Instr, Row_of-Instr, end_of-Instr, more_of-Instr, Block', Loop', If', Call, CallIndirect, GlobalGet, GlobalSet, TableGet, TableSet, Load, Store, MemorySize, MemoryGrow, RefFunc, MemoryInit, DataDrop, MemoryCopy, MemoryFill, TableInit, ElemDrop, TableCopy, TableGrow, TableSize, TableFill, Layers, RowLayers, ListLayers, PassesLayerByLayer, operands, block_operands, all_operands_pass}
+use Rattle.wasm_tree_spec.specs.Prelude.{Operand, RefType, FuncType, BlockType, Instr, Row_of-Instr, end_of-Instr, more_of-Instr, Block', Loop', If', Call, CallIndirect, GlobalGet, GlobalSet, TableGet, TableSet, Load, Store, MemorySize, MemoryGrow, RefFunc, MemoryInit, DataDrop, MemoryCopy}
+use Rattle.wasm_tree_spec.specs.Prelude.{MemoryFill, TableInit, ElemDrop, TableCopy, TableGrow, TableSize, TableFill, Layers, RowLayers, ListLayers, PassesLayerByLayer, operands, block_operands, all_operands_pass}
 use Rattle.wasm_tree.specs.declared.types.BlockType.TheVariants as block
 use Rattle.wasm_tree.specs.declared.instr.Instr.{out-Instr}
 use Rattle.wasm_tree.specs.declared.instr.Instr.TheOpen.{Instr-F}

@@ -1,5 +1,6 @@
 -- Lists that are joined by part, read at a place and made one part after the other.
-use Rattle.base_lists.proofs.Common.{◌≡◌, ◌∙◌, sym, ap, refl, ℕ, zero, suc, ◌+◌, ◌<◌, ◌≤◌, List, [], ◌∷◌, ◌++◌, length, map, take, arith, slice_get, slice_index, Some, append_assoc, append-nil, length-map, length-append, take_all, flat_map, slice_get-map, slice_get_within, get_or_from_slice_get, and_then_is}
+use Rattle.base_lists.proofs.Common.{◌≡◌, ◌∙◌, sym, ap, refl, ℕ, zero, suc, ◌+◌, ◌<◌, ◌≤◌, List, [], ◌∷◌, ◌++◌, length, map, take, arith, slice_get, slice_index, Some, append_assoc, append-nil, length-map, length-append, take_all, flat_map, slice_get-map, slice_get_within, get_or_from_slice_get}
+use Rattle.base_lists.proofs.Common.{and_then_is}
 use Rattle.std.specs.Option.{option_map}
 use Rattle.wasm_tree_spec.specs.Prelude.{Module}
 use Rattle.wasm_meaning.specs.Prelude.{Part, Site, module_at, sites_in}

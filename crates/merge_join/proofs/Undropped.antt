@@ -1,6 +1,8 @@
 -- Only a dropped export can leave a function undeclared that `ref.func` names in a body of the merged module: a part is valid, so what its bodies name it names outside
 -- them too, and there the merged module names it as well.
-use Rattle.base_lists.proofs.Common.{◌≡◌, ◌∙◌, refl, sym, ap, subst, ℕ, zero, suc, ◌+◌, ◌<◌, ◌≤◌, Bool, true, false, ◌&&◌, ◌||◌, not, nat_eq, nat_lt, List, [], ◌∷◌, ◌++◌, map, length, Option, Some, None, ◌⊎◌, inl, inr, ⊎_elim, arith, option_map, unwrap_or, slice_get, slice_index, filter, filter_map, flat_map, list_all, range_with_len, length-map, slice_get-get_or, eqb-true, eq-eqb, ltb-true, left_true, right_true, list_all_each, list_all_from, list_any_there, is_kept, chosen_from, has_chosen, length-numbers, Has, map_at, map_from, append_from, has_left, has_right, right_either}
+use Rattle.base_lists.proofs.Common.{◌≡◌, ◌∙◌, refl, sym, ap, subst, ℕ, zero, suc, ◌+◌, ◌<◌, ◌≤◌, Bool, true, false, ◌&&◌, ◌||◌, not, nat_eq, nat_lt, List, [], ◌∷◌, ◌++◌, map, length, Option, Some, None, ◌⊎◌, inl, inr, ⊎_elim, arith, option_map, unwrap_or, slice_get, slice_index, filter, filter_map}
+use Rattle.base_lists.proofs.Common.{flat_map, list_all, range_with_len, length-map, slice_get-get_or, eqb-true, eq-eqb, ltb-true, left_true, right_true, list_all_each, list_all_from, list_any_there, is_kept, chosen_from, has_chosen, length-numbers, Has, map_at, map_from, append_from, has_left}
+use Rattle.base_lists.proofs.Common.{has_right, right_either}
 use Rattle.base_lists.specs.Members.{is_among}
 use Rattle.std.proofs.Common.{length-append}
 use Rattle.std.proofs.lemmas.List.FromFn.{get_or-range_with_len, length-range_with_len}

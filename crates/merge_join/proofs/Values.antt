@@ -1,5 +1,6 @@
 -- What replaces the imported globals of a part, one import after the other.
-use Rattle.base_lists.proofs.Common.{◌≡◌, ◌∙◌, ap, sym, subst, refl, ℕ, ◌+◌, ◌<◌, List, [], ◌∷◌, ◌++◌, length, take, drop, Some, None, true, false, ◌&&◌, not, nat_lt, arith, slice_get, get_or, option_and_then, append_assoc, append-nil, ◌⊎◌, inl, inr, cons_option, cases_order, nat_tests, take_more, take-append-drop, length-append, filter_map-append, slice_get_within, append_right, append_at_left, push_last}
+use Rattle.base_lists.proofs.Common.{◌≡◌, ◌∙◌, ap, sym, subst, refl, ℕ, ◌+◌, ◌<◌, List, [], ◌∷◌, ◌++◌, length, take, drop, Some, None, true, false, ◌&&◌, not, nat_lt, arith, slice_get, get_or, option_and_then, append_assoc, append-nil, ◌⊎◌, inl, inr, cons_option, cases_order, nat_tests, take_more}
+use Rattle.base_lists.proofs.Common.{take-append-drop, length-append, filter_map-append, slice_get_within, append_right, append_at_left, push_last}
 use Rattle.wasm_tree_spec.specs.Prelude.{GlobalType, ValType, Import, ImportDesc, ConstExpr, Module, global_of, imported_globals}
 use Rattle.wasm_tree.specs.declared.module.ImportDesc.TheVariants as im
 use Rattle.wasm_tree.specs.declared.module.ConstExpr.TheVariants as const

@@ -4,7 +4,8 @@ use Rattle.std.specs.Prelude.{◌≡◌, List, map, Option}
 use Rattle.std.specs.List.{flat_map, filter_map}
 use Rattle.wasm_tree_spec.specs.Prelude.{Module}
 use Rattle.wasm_meaning.specs.Prelude.{Text, Part}
-use Rattle.merge_spec.specs.Prelude.{by_part, map_of, merged_types, merged_import, staying, named_exports, all_exports, start_among, starts, start_calls, defined_funcs, merged_global, merged_elem, merged_data}
+use Rattle.merge_spec.specs.Prelude.{by_part, map_of, merged_types, merged_import, staying, named_exports, all_exports, start_among, starts, start_calls, defined_funcs, merged_global, merged_elem}
+use Rattle.merge_spec.specs.Prelude.{merged_data}
 use Rattle.merge_join.specs.declared.tree.Plan.{Plan}
 use Rattle.merge_join.specs.Moved.{AreAllValues}
 use Rattle.merge_join.specs.LinkedParts.{AreMaps, funcs_before_calls}

@@ -97,7 +97,8 @@ fn add_exports(
 ) -> Result<(), NoMemory>
     requires named { first + length exports.now ≤ length names.now }
     requires fits { IsTrue (list_all (fits_export entries.now) exports.now) }
-    ensures { OnOk result ((before : List tree.Export) → length before ≡ first → all.old ≡ named_exports before names.now → all.new ≡ named_exports (before ++ map (new_export entries.now) exports.now) names.now) }
+    ensures { OnOk result ((before : List tree.Export) → length before ≡ first → all.old ≡ named_exports before names.now → all.new ≡
+        named_exports (before ++ map (new_export entries.now) exports.now) names.now) }
 {
     for at in 0..exports.len() {
         add_export(alloc, all, &exports[at], &names[first + at], entries)?;

@@ -64,7 +64,8 @@ fn add_imports(
 ) -> Result<(), NoMemory>
     requires joined { HaveTheirMaps joining.now }
     requires there { part < length joining.now.parts.now }
-    ensures { OnOk result ((m : Module) → module_at (named_modules joining.now.parts.now) part ≡ Some m → all.new ≡ all.old ++ filter_map (merged.merged_import (named_modules joining.now.parts.now)) (filter (faults.stays (named_modules joining.now.parts.now)) (sites_in part (length m.imports) 0))) }
+    ensures { OnOk result ((m : Module) → module_at (named_modules joining.now.parts.now) part ≡ Some m → all.new ≡ all.old ++
+        filter_map (merged.merged_import (named_modules joining.now.parts.now)) (filter (faults.stays (named_modules joining.now.parts.now)) (sites_in part (length m.imports) 0))) }
 {
     for place in 0..module_of(joining.parts, part).imports.len() {
         if stays(joining.parts, joining.links, part, place) {

@@ -57,7 +57,8 @@ fn imported_map(
 ) -> Result<Items<u32>, NoMemory>
     requires linked { PartsAreLinked into.now.parts.now links.now }
     requires there { part < length into.now.parts.now }
-    ensures { IfOk result (λ new. (m : Tree) → module_at (named_modules into.now.parts.now) part ≡ Some m → new ≡ each (new_index (named_modules into.now.parts.now) part into.now.space) (world.numbers 0 (length (imports_of into.now.space m)))) }
+    ensures { IfOk result (λ new. (m : Tree) → module_at (named_modules into.now.parts.now) part ≡ Some m → new ≡
+        each (new_index (named_modules into.now.parts.now) part into.now.space) (world.numbers 0 (length (imports_of into.now.space m)))) }
 {
     let mut map = Items::new(alloc);
     let imports = module_of(into.parts, part).imports.as_slice();
@@ -79,7 +80,8 @@ fn space_map(
 ) -> Result<Items<u32>, NoMemory>
     requires linked { PartsAreLinked into.now.parts.now links.now }
     requires there { part < length into.now.parts.now }
-    ensures { IfOk result (λ new. (m : Tree) → module_at (named_modules into.now.parts.now) part ≡ Some m → new ≡ each (new_index (named_modules into.now.parts.now) part into.now.space) (world.numbers 0 (space_size into.now.space m))) }
+    ensures { IfOk result (λ new. (m : Tree) → module_at (named_modules into.now.parts.now) part ≡ Some m → new ≡
+        each (new_index (named_modules into.now.parts.now) part into.now.space) (world.numbers 0 (space_size into.now.space m))) }
 {
     definitions_are_counted_by_part();
     let mut map = imported_map(alloc, links, part, into)?;

@@ -1,5 +1,6 @@
 -- Met limits, one import more at a time, from the last to the first.
-use Rattle.base_lists.proofs.Common.{◌≡◌, ◌≢◌, ◌⊎◌, ◌∙◌, sym, ap, refl, subst, inl, inr, ℕ, zero, suc, ◌+◌, ◌<◌, List, [], ◌∷◌, Option, Some, None, Bool, true, false, cond, map, max, length, set, replicate, slice_get, nat_eq, arith, option_and_then, cases_eq, nat_tests, length-map, length-set, slice_get-map, slice_get_within, set_at, set_other, slice_get_there}
+use Rattle.base_lists.proofs.Common.{◌≡◌, ◌≢◌, ◌⊎◌, ◌∙◌, sym, ap, refl, subst, inl, inr, ℕ, zero, suc, ◌+◌, ◌<◌, List, [], ◌∷◌, Option, Some, None, Bool, true, false, cond, map, max, length, set, replicate, slice_get, nat_eq, arith, option_and_then, cases_eq, nat_tests, length-map, length-set}
+use Rattle.base_lists.proofs.Common.{slice_get-map, slice_get_within, set_at, set_other, slice_get_there}
 use Rattle.std.specs.Option.{option_map}
 use Rattle.wasm_tree_spec.specs.Prelude.{Limits, Import, Module}
 use Rattle.wasm_meaning.specs.Linking as linking

@@ -1,5 +1,6 @@
 -- Defined globals by their numbers, and one step of a read.
-use Rattle.base_lists.proofs.Common.{◌≡◌, ◌∙◌, sym, ap, refl, ℕ, zero, suc, ◌+◌, ◌-◌, ◌^◌, ◌<◌, ◌≤◌, List, [], ◌∷◌, ◌++◌, Option, Some, None, map, length, drop, get_or, slice_get, arith, option_and_then, length-append, length-map, drop_more, slice_get-map, slice_get_within, slice_get_past, slice_get_there, append_right, append_at_left}
+use Rattle.base_lists.proofs.Common.{◌≡◌, ◌∙◌, sym, ap, refl, ℕ, zero, suc, ◌+◌, ◌-◌, ◌^◌, ◌<◌, ◌≤◌, List, [], ◌∷◌, ◌++◌, Option, Some, None, map, length, drop, get_or, slice_get, arith, option_and_then, length-append, length-map, drop_more, slice_get-map, slice_get_within, slice_get_past}
+use Rattle.base_lists.proofs.Common.{slice_get_there, append_right, append_at_left}
 use Rattle.wasm_tree_spec.specs.Prelude.{Globals, GlobalDef, Import, Module, globals_of, imported_globals, index_of_export}
 use Rattle.std.specs.Option.{option_map}
 use Rattle.wasm_tree.specs.declared.module.ConstExpr.TheVariants as const

@@ -1,6 +1,7 @@
 -- External types of what modules define, and lists of types compared.
 use Rattle.base_lists.proofs.Common.{◌≡◌, ◌∙◌, sym, ap, refl, ℕ, zero, suc, ◌-◌, ◌≤◌, List, [], ◌∷◌, ◌++◌, Option, Some, None, Bool, true, false, cond, ◌&&◌, map, length, slice_get, arith, cons_option, slice_get-map, slice_get_none}
-use Rattle.wasm_tree_spec.specs.Prelude.{Functions, Tables, Memories, Globals, same_space, ValType, Import, ImportDesc, Func, GlobalDef, Module, func_of, table_of, memory_of, global_of, imported_funcs, imported_tables, imported_memories, imported_globals, funcs_of, index_of_export, space_of_export, space_of_import}
+use Rattle.wasm_tree_spec.specs.Prelude.{Functions, Tables, Memories, Globals, same_space, ValType, Import, ImportDesc, Func, GlobalDef, Module, func_of, table_of, memory_of, global_of, imported_funcs, imported_tables, imported_memories, imported_globals, funcs_of, index_of_export, space_of_export}
+use Rattle.wasm_tree_spec.specs.Prelude.{space_of_import}
 use Rattle.std.specs.Option.{option_map, option_and_then}
 use lib.Pointwise.{pointwise}
 use Rattle.wasm_tree.specs.declared.types.ValType.TheVariants as valt

@@ -137,7 +137,8 @@ impl<'a> PartTables<'a> {
         requires joining { ArePartTables self.now }
         requires sites { AreSites self.now.parts.now sites.now }
         requires ends { AreKnown self.now.parts.now sites.now ends.now }
-        ensures { IfOk result (λ steps. AreSteps (linking.read_step (named_modules self.now.parts.now)) (own_reads (named_modules self.now.parts.now)) the_read (map (λ g. own_read (the_own g)) globals.now) steps.items) }
+        ensures { IfOk result (λ steps. AreSteps (linking.read_step (named_modules self.now.parts.now)) (own_reads (named_modules self.now.parts.now)) the_read
+            (map (λ g. own_read (the_own g)) globals.now) steps.items) }
     {
         let mut steps = Vec::new(alloc);
         for global in globals {

@@ -77,7 +77,8 @@ impl<'a> PartTables<'a> {
     fn steps(&self, alloc: Global, sites: &[Site]) -> Result<Vec<Step<Ending>>, NoMemory>
         requires joining { ArePartTables self.now }
         requires sites { AreSites self.now.parts.now sites.now }
-        ensures { IfOk result (λ steps. AreSteps (linking.import_step (named_modules self.now.parts.now)) (linking.sites (named_modules self.now.parts.now)) the_end (map the_site sites.now) steps.items) }
+        ensures { IfOk result (λ steps. AreSteps (linking.import_step (named_modules self.now.parts.now)) (linking.sites (named_modules self.now.parts.now)) the_end (map the_site sites.now)
+            steps.items) }
     {
         let mut steps = Vec::new(alloc);
         for site in sites {

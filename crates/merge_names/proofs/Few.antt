@@ -1,5 +1,6 @@
 -- Only so many numbers make names that are taken.
-use Rattle.base_lists.proofs.Common.{◌≡◌, ◌∙◌, sym, ap, refl, ℕ, suc, ◌<◌, ◌≤◌, ◌-◌, ◌+◌, ◌^◌, List, [], ◌∷◌, length, map, arith, Some, Bool, true, false, decimal, string_bytes, list_any, bytes_eq, contains_text, btree_set_len, nat_cmp, slice_cmp, is_eq-slice_cmp, decimal_injective, append_cancel_left, length-map, slice_get-map, list_any_there, pigeons, Has}
+use Rattle.base_lists.proofs.Common.{◌≡◌, ◌∙◌, sym, ap, refl, ℕ, suc, ◌<◌, ◌≤◌, ◌-◌, ◌+◌, ◌^◌, List, [], ◌∷◌, length, map, arith, Some, Bool, true, false, decimal, string_bytes, list_any, bytes_eq, contains_text, btree_set_len, nat_cmp, slice_cmp, is_eq-slice_cmp, decimal_injective}
+use Rattle.base_lists.proofs.Common.{append_cancel_left, length-map, slice_get-map, list_any_there, pigeons, Has}
 use Rattle.std.specs.Option.{option_map}
 use Rattle.std.specs.Prelude.{String}
 use Rattle.std.specs.BTreeSet.{BTreeSet}

@@ -1,5 +1,6 @@
 -- The types of the parts, each once, in the order of their first appearance.
-use Rattle.base_lists.proofs.Common.{◌≡◌, ◌∙◌, sym, ap, subst, refl, ℕ, zero, suc, ◌+◌, ◌<◌, List, [], ◌∷◌, ◌++◌, length, Some, Bool, true, false, cond, ◌||◌, slice_get, arith, ◌⊎◌, inl, inr, append_assoc, append-nil, list_any, slice_get_within, list_any_there, Has, append_at_left, append_from, has_left, push_last, each_same_is, each_same_self}
+use Rattle.base_lists.proofs.Common.{◌≡◌, ◌∙◌, sym, ap, subst, refl, ℕ, zero, suc, ◌+◌, ◌<◌, List, [], ◌∷◌, ◌++◌, length, Some, Bool, true, false, cond, ◌||◌, slice_get, arith, ◌⊎◌, inl, inr, append_assoc, append-nil, list_any, slice_get_within, list_any_there, Has, append_at_left, append_from}
+use Rattle.base_lists.proofs.Common.{has_left, push_last, each_same_is, each_same_self}
 use Rattle.wasm_tree_spec.specs.Prelude.{FuncType, Module, same_func_type, same_type}
 use Rattle.index_remap.specs.Prelude.{declared, declared_refs, with_declared}
 use Rattle.merge_names.specs.Names.{new_names}

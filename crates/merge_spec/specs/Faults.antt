@@ -2,12 +2,14 @@
 -- then the limits of staying imports are checked; then the memories are counted; then the values of
 -- globals are followed.
 use Rattle.std.specs.Prelude.{◌≡◌, ℕ, suc, ◌+◌, ◌<◌, List, [], ◌∷◌, ◌++◌, length, Option, Some, None, Bool, true, false, cond, nat_lt, slice_get, unwrap_or, ◌&&◌}
-use Rattle.wasm_tree_spec.specs.Prelude.{Memories, Globals, FuncType, Limits, TableType, GlobalType, ImportDesc, ExportDesc, ConstExpr, GlobalDef, Module, type_of_func, tables_of, memories_of, globals_of, same_func_type, same_ref, same_type}
+use Rattle.wasm_tree_spec.specs.Prelude.{Memories, Globals, FuncType, Limits, TableType, GlobalType, ImportDesc, ExportDesc, ConstExpr, GlobalDef, Module, type_of_func, tables_of, memories_of}
+use Rattle.wasm_tree_spec.specs.Prelude.{globals_of, same_func_type, same_ref, same_type}
 use Rattle.base_lists.specs.Options.{◌>>=◌, first_given}
 use Rattle.std.specs.Option.{option_or}
 use Rattle.wasm_tree.specs.declared.module.ImportDesc.TheVariants as im
 use Rattle.wasm_tree.specs.declared.module.ExportDesc.TheVariants as ex
-use Rattle.wasm_meaning.specs.Prelude.{same_bool, meets, defined_before, Part, Site, End, Defined, Outside, count_of, has_kind, module_at, import_at, imports_of, sites, end_of, is_outside, linked_end, limits_of, met_limits, Read, read_of}
+use Rattle.wasm_meaning.specs.Prelude.{same_bool, meets, defined_before, Part, Site, End, Defined, Outside, count_of, has_kind, module_at, import_at, imports_of, sites, end_of, is_outside, linked_end}
+use Rattle.wasm_meaning.specs.Prelude.{limits_of, met_limits, Read, read_of}
 use Rattle.merge_spec.specs.declared.faults.LinkFault.{LinkFault}
 use Rattle.merge_spec.specs.declared.faults.LinkFault.TheVariants.{ImportMismatch, ImportCycle, LimitsClash, TooManyMemories, GlobalCycle, NoMemory}
 

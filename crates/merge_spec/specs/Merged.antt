@@ -1,13 +1,15 @@
 -- The merged module: its lists are filtered or joined from the parts' lists, and its indices are
 -- places in these.
 use Rattle.std.specs.Prelude.{ℕ, suc, ◌+◌, ◌-◌, List, [], ◌∷◌, ◌++◌, map, filter, length, Option, Some, None, Bool, false, cond, slice_index, slice_get, unwrap_or}
-use Rattle.wasm_tree_spec.specs.Prelude.{Space, Functions, Tables, Memories, Globals, DataSegments, ElementSegments, FuncType, Import, ImportDesc, Export, ConstExpr, Func, GlobalDef, ElemSeg, ElemMode, DataSeg, DataMode, Module, Call, funcs_of, tables_of, memories_of, globals_of, index_of_export, same_func_type}
+use Rattle.wasm_tree_spec.specs.Prelude.{Space, Functions, Tables, Memories, Globals, DataSegments, ElementSegments, FuncType, Import, ImportDesc, Export, ConstExpr, Func, GlobalDef, ElemSeg}
+use Rattle.wasm_tree_spec.specs.Prelude.{ElemMode, DataSeg, DataMode, Module, Call, funcs_of, tables_of, memories_of, globals_of, index_of_export, same_func_type}
 use Rattle.base_lists.specs.Options.{◌>>=◌}
 use Rattle.std.specs.List.{flat_map, filter_map, list_any}
 use Rattle.wasm_tree.specs.declared.module.ImportDesc.TheVariants as im
 use Rattle.wasm_tree.specs.declared.module.ElemMode.TheVariants as elem
 use Rattle.wasm_tree.specs.declared.module.DataMode.TheVariants as data'
-use Rattle.wasm_meaning.specs.Prelude.{Text, defined_before, numbers, Part, Site, End, Defined, Outside, Read, first_place, has_kind, module_at, import_at, imports_of, same_site, sites, linked_end, met_limits, read_of}
+use Rattle.wasm_meaning.specs.Prelude.{Text, defined_before, numbers, Part, Site, End, Defined, Outside, Read, first_place, has_kind, module_at, import_at, imports_of, same_site, sites, linked_end}
+use Rattle.wasm_meaning.specs.Prelude.{met_limits, read_of}
 use Rattle.index_remap.specs.declared.remap.Remap.{Remap}
 use Rattle.index_remap.specs.Prelude.{new_const, new_func, new_export}
 use Rattle.merge_spec.specs.Faults.{stays}

@@ -1,5 +1,6 @@
 -- Each part agrees with the merged module along the part's map, and the map covers the part.
-use Rattle.base_lists.proofs.Common.{◌≡◌, ◌∙◌, ap, sym, subst, refl, ℕ, ◌+◌, ◌<◌, List, map, length, Option, Some, None, true, arith, ◌⊎◌, inl, inr, slice_get, slice_index, option_and_then, length-map, slice_get_within, slice_get_there, slice_index_is, map_at, map_from, append_from, chosen_from, numbers_at, length-numbers, and_then_is}
+use Rattle.base_lists.proofs.Common.{◌≡◌, ◌∙◌, ap, sym, subst, refl, ℕ, ◌+◌, ◌<◌, List, map, length, Option, Some, None, true, arith, ◌⊎◌, inl, inr, slice_get, slice_index, option_and_then, length-map, slice_get_within, slice_get_there, slice_index_is, map_at, map_from, append_from, chosen_from}
+use Rattle.base_lists.proofs.Common.{numbers_at, length-numbers, and_then_is}
 use Rattle.wasm_tree_spec.specs.Prelude.{Space, Types, Functions, Tables, Memories, Globals, DataSegments, ElementSegments, RefType, FuncType, GlobalType, Import, ImportDesc, Func, ElemSeg, DataSeg, Module, funcs_of, tables_of, memories_of, globals_of, type_of_func}
 use Rattle.wasm_tree.specs.declared.module.ImportDesc.TheVariants as im
 use Rattle.wasm_valid.specs.declared.kinds.ItemKind.TheVariants as kind

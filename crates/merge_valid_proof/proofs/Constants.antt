@@ -1,5 +1,6 @@
 -- A constant expression of a part keeps its type where it becomes what it reads through joined globals.
-use Rattle.base_lists.proofs.Common.{◌≡◌, ◌∙◌, ap, ap₂, sym, subst, refl, ℕ, zero, suc, ◌+◌, ◌-◌, ◌<◌, ◌≤◌, List, [], ◌∷◌, length, Option, Some, Bool, true, false, cond, ◌&&◌, not, nat_lt, arith, IsTrue, option_and_then, unwrap_or, slice_get, slice_index, ltb-true, lt-ltb, is_some_there, and_then_is, slice_get_within, slice_get_there, map_from, append_at_left, place_of, places_many, left_true, right_true, only_true, only_rest}
+use Rattle.base_lists.proofs.Common.{◌≡◌, ◌∙◌, ap, ap₂, sym, subst, refl, ℕ, zero, suc, ◌+◌, ◌-◌, ◌<◌, ◌≤◌, List, [], ◌∷◌, length, Option, Some, Bool, true, false, cond, ◌&&◌, not, nat_lt, arith, IsTrue, option_and_then, unwrap_or, slice_get, slice_index, ltb-true, lt-ltb, is_some_there}
+use Rattle.base_lists.proofs.Common.{and_then_is, slice_get_within, slice_get_there, map_from, append_at_left, place_of, places_many, left_true, right_true, only_true, only_rest}
 use Rattle.wasm_tree_spec.specs.Prelude.{Space, Functions, Globals, ValType, Ref, GlobalType, Import, ConstExpr, GlobalDef, Module, funcs_of, globals_of, imported_globals, index_of_export}
 use Rattle.wasm_tree.specs.declared.types.RefType.TheVariants.{Func as func_ref}
 use Rattle.wasm_tree.specs.declared.module.ConstExpr.TheVariants as const

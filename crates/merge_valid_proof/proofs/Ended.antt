@@ -1,8 +1,10 @@
 -- Where imports of linked parts end, with all that is asked and found there; and which sites are imports.
-use Rattle.base_lists.proofs.Common.{◌≡◌, ◌∙◌, ap, ap₂, sym, subst, refl, ℕ, zero, suc, ◌+◌, ◌<◌, List, length, Some, Bool, true, false, arith, option_and_then, ◌&&◌, slice_get, length-append, length-map, slice_get_within, slice_get_there, slice_get_none, and_then_is, and_parts, and_from, each_same_self}
+use Rattle.base_lists.proofs.Common.{◌≡◌, ◌∙◌, ap, ap₂, sym, subst, refl, ℕ, zero, suc, ◌+◌, ◌<◌, List, length, Some, Bool, true, false, arith, option_and_then, ◌&&◌, slice_get, length-append, length-map, slice_get_within, slice_get_there, slice_get_none, and_then_is, and_parts, and_from}
+use Rattle.base_lists.proofs.Common.{each_same_self}
 use Rattle.wasm_tree_spec.specs.Prelude.{Space, Functions, Tables, Memories, Globals, Types, ElementSegments, DataSegments, GlobalType, Import, ImportDesc, Module, index_of_export, space_of_import}
 use Rattle.wasm_tree.specs.declared.module.ImportDesc.TheVariants as im
-use Rattle.wasm_meaning.specs.Prelude.{Pair, EndsArePaths, Owned, MemoryKey, owned_at, same_ref, same_type, same_func_type, same_bool, own_key, own_key_of, outside_external_value, Part, Site, End, Defined, Outside, Entity, has_kind, import_at, imports_of, pair_of, sites_in, sites, end_of, linked_end, gathered}
+use Rattle.wasm_meaning.specs.Prelude.{Pair, EndsArePaths, Owned, MemoryKey, owned_at, same_ref, same_type, same_func_type, same_bool, own_key, own_key_of, outside_external_value, Part, Site, End, Defined, Outside, Entity, has_kind, import_at, imports_of, pair_of, sites_in, sites, end_of}
+use Rattle.wasm_meaning.specs.Prelude.{linked_end, gathered}
 use Rattle.merge_spec.specs.Prelude.{External, FuncOf, TableOf, MemoryOf, GlobalOf, asked_at, found, suits, external_of, same_but_limits, meets_limits, merged, start_calls, starts, by_part}
 use Rattle.merge_spec.specs.Faults.{stays}
 use Rattle.merge_valid_proof.specs.Ended.{EndsInside, EndsOutside, Ended, inside, outside, added_count, LinkedImportsEnd, StayingImportsEndThere, SitesAreImports, StayingImportsHavePlaces, NewIndicesArePlaces, DefinedEntitiesHavePlaces, TypesHavePlaces, MergedModulesDefineAll}

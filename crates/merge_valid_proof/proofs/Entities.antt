@@ -1,6 +1,7 @@
 -- The index spaces of entities at once: what an entry of one is, and its type, with the limits of tables and memories left aside. Types and segments are no entities.
 use Rattle.base_lists.proofs.Common.{◌≡◌, ◌∙◌, ap, ap₂, sym, refl, ℕ, List, ◌++◌, map, length, Option, Some, None, true, is_some, [], slice_get, option_and_then, filter_map, length-map, and_then_is, and_parts, each_same_is, arith}
-use Rattle.wasm_tree_spec.specs.Prelude.{Space, Types, Functions, Tables, Memories, Globals, ElementSegments, DataSegments, RefType, FuncType, Limits, TableType, GlobalType, Import, ImportDesc, ExportDesc, Module, func_of, table_of, memory_of, global_of, funcs_of, tables_of, memories_of, globals_of, type_of_func, index_of_export, space_of_export, space_of_import, same_type}
+use Rattle.wasm_tree_spec.specs.Prelude.{Space, Types, Functions, Tables, Memories, Globals, ElementSegments, DataSegments, RefType, FuncType, Limits, TableType, GlobalType, Import, ImportDesc, ExportDesc, Module, func_of, table_of, memory_of, global_of, funcs_of, tables_of, memories_of, globals_of}
+use Rattle.wasm_tree_spec.specs.Prelude.{type_of_func, index_of_export, space_of_export, space_of_import, same_type}
 use Rattle.wasm_tree.specs.declared.module.ImportDesc.TheVariants as im
 use Rattle.wasm_tree.specs.declared.module.ExportDesc.TheVariants as ex
 use Rattle.wasm_meaning.specs.Prelude.{same_type, same_bool, defined_count, has_kind}

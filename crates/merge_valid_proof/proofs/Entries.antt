@@ -1,5 +1,6 @@
 -- The new index of an entry of a part's index space stands in the merged module for an entity of the same type.
-use Rattle.base_lists.proofs.Common.{◌≡◌, ◌∙◌, ap, ap₂, sym, subst, refl, ℕ, ◌+◌, ◌-◌, ◌<◌, ◌≤◌, List, length, Option, Some, None, true, arith, ◌⊎◌, inl, inr, option_and_then, unwrap_or, false, slice_get, filter, is_some_there, and_then_is, slice_get_within, slice_get_none, append_from, Has, first_at, is_kept, place_of, places_many, append_left}
+use Rattle.base_lists.proofs.Common.{◌≡◌, ◌∙◌, ap, ap₂, sym, subst, refl, ℕ, ◌+◌, ◌-◌, ◌<◌, ◌≤◌, List, length, Option, Some, None, true, arith, ◌⊎◌, inl, inr, option_and_then, unwrap_or, false, slice_get, filter, is_some_there, and_then_is, slice_get_within, slice_get_none, append_from, Has}
+use Rattle.base_lists.proofs.Common.{first_at, is_kept, place_of, places_many, append_left}
 use Rattle.wasm_tree_spec.specs.Prelude.{Space, same_space, Import, ExportDesc, Module, index_of_export, space_of_export, space_of_import}
 use Rattle.wasm_meaning.specs.Prelude.{Text, EndsArePaths, defined_before, Part, Site, End, Defined, Outside, Entity, first_place, module_at, import_at, imports_of, has_kind, imported_as, sites, same_site, is_outside, linked_end}
 use Rattle.merge_spec.specs.Prelude.{External, asked, asked_at, merged, imports_kind, imported_count}

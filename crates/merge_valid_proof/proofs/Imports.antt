@@ -38,7 +38,8 @@ pub limits_hold : (parts : List Part) (s : Site) (i : Import) (l : Limits) → s
 unfolding clash_fault kept_limits
 limits_hold parts s i l remain at is h =
     let kept : kept_limits parts s ≡ Some (met_limits parts s) =
-    ap (λ b. cond b (option_and_then (λ i. option_and_then (λ l. Some (met_limits parts s)) (limits_of i.desc)) (import_at parts s)) None) remain ∙ ap (λ o. option_and_then (λ i. option_and_then (λ l. Some (met_limits parts s)) (limits_of i.desc)) o) at ∙ ap (λ o. option_and_then {T = Limits} {U = Limits} (λ l. Some (met_limits parts s)) o) is in
+    ap (λ b. cond b (option_and_then (λ i. option_and_then (λ l. Some (met_limits parts s)) (limits_of i.desc)) (import_at parts s)) None) remain ∙ ap (λ o. option_and_then (λ i. option_and_then (λ l. Some (met_limits parts s)) (limits_of i.desc)) o) at ∙
+    ap (λ o. option_and_then {T = Limits} {U = Limits} (λ l. Some (met_limits parts s)) o) is in
     let fits : cond (is_under (met_limits parts s).max (met_limits parts s).min) (Some (LimitsClash s.part s.import)) None ≡ None =
     sym (ap (λ o. option_and_then {T = Limits} {U = LinkFault} (λ l. cond (is_under l.max l.min) (Some (LimitsClash s.part s.import)) None) o) kept) ∙ h in
     not_under (met_limits parts s).max (met_limits parts s).min (no_clash s (met_limits parts s) fits)

@@ -98,7 +98,8 @@ own_has parts p m j g e h =
     let part_0 : p ≡ 0 + p = omega arith in
     let there : Has (defined_globals_in p n m.globals) (record { part = p; index = n + j; init = g.init }) = (j, own_in p n m.globals j g h) in (
       record { part = p; index = n + j; init = g.init },
-      subst (λ z. Has z (record { part = p; index = n + j; init = g.init })) (sym (own_are 0 parts)) (by_part_has (λ p m. defined_globals_in p (length (imports_of Globals m)) m.globals) 0 parts p m (record { part = p; index = n + j; init = g.init }) e (subst (λ q. Has (defined_globals_in q n m.globals) (record { part = p; index = n + j; init = g.init })) part_0 there)),
+      subst (λ z. Has z (record { part = p; index = n + j; init = g.init })) (sym (own_are 0 parts)) (by_part_has (λ p m. defined_globals_in p (length (imports_of Globals m)) m.globals) 0 parts p m (record { part = p; index = n + j; init = g.init }) e
+          (subst (λ q. Has (defined_globals_in q n m.globals) (record { part = p; index = n + j; init = g.init })) part_0 there)),
       refl,
       refl,
     )

@@ -1,5 +1,6 @@
 -- The index spaces of the merged module: an import that stays and an entity that a part defines stand there at their places, with their types.
-use Rattle.base_lists.proofs.Common.{◌≡◌, ◌∙◌, ap, sym, subst, refl, ℕ, ◌+◌, List, [], ◌++◌, map, length, Option, Some, None, true, false, arith, option_and_then, unwrap_or, is_some, append-nil, slice_get, slice_index, filter_map, length-map, map-append, map_twice, map_at, append_at_left, append_right, and_then_is, map-id}
+use Rattle.base_lists.proofs.Common.{◌≡◌, ◌∙◌, ap, sym, subst, refl, ℕ, ◌+◌, List, [], ◌++◌, map, length, Option, Some, None, true, false, arith, option_and_then, unwrap_or, is_some, append-nil, slice_get, slice_index, filter_map, length-map, map-append, map_twice, map_at, append_at_left}
+use Rattle.base_lists.proofs.Common.{append_right, and_then_is, map-id}
 use Rattle.wasm_tree_spec.specs.Prelude.{Space, Types, Functions, Tables, Memories, Globals, ElementSegments, DataSegments, Import, ImportDesc, Module}
 use Rattle.wasm_tree.specs.declared.module.ImportDesc.TheVariants as im
 use Rattle.wasm_meaning.specs.Prelude.{Text, defined_count, defined_before, Part, Site, has_kind, module_at, import_at}
@@ -108,7 +109,8 @@ import_moved parts k s = by (module_at parts s.part)
     inner m (Some i) = desc_moved parts s m k i.desc ∙ import_kind k i
 
     by : (o : Option Module) →
-        is_some (option_and_then (of_import k) (option_and_then (λ m. option_and_then {T = Import} {U = Import} (λ i. Some (record i { desc = merged_desc parts s m i.desc })) (option_and_then (λ m. slice_get m.imports s.import) o)) o)) ≡ unwrap_or (option_and_then (λ i. Some (has_kind k i)) (option_and_then (λ m. slice_get m.imports s.import) o)) false
+        is_some (option_and_then (of_import k) (option_and_then (λ m. option_and_then {T = Import} {U = Import} (λ i. Some (record i { desc = merged_desc parts s m i.desc })) (option_and_then (λ m. slice_get m.imports s.import) o)) o)) ≡
+        unwrap_or (option_and_then (λ i. Some (has_kind k i)) (option_and_then (λ m. slice_get m.imports s.import) o)) false
     by None = refl
     by (Some m) = inner m (slice_get m.imports s.import)
 
@@ -137,7 +139,8 @@ import_is parts s m i e h = by (module_at parts s.part) e h
     by None e h = cc
     by (Some n) e h =
         let same : n ≡ m = cc in
-        subst (λ n. option_and_then {T = Import} {U = Import} (λ i. Some (record i { desc = merged_desc parts s n i.desc })) (slice_get n.imports s.import) ≡ Some (record i { desc = merged_desc parts s m i.desc })) (sym same) (inner (slice_get m.imports s.import) (subst (λ n. slice_get n.imports s.import ≡ Some i) same h))
+        subst (λ n. option_and_then {T = Import} {U = Import} (λ i. Some (record i { desc = merged_desc parts s n i.desc })) (slice_get n.imports s.import) ≡ Some (record i { desc = merged_desc parts s m i.desc })) (sym same)
+        (inner (slice_get m.imports s.import) (subst (λ n. slice_get n.imports s.import ≡ Some i) same h))
 
 -- ---- types ----
 

@@ -1,5 +1,6 @@
 -- Each type of a part stands among the merged types, at the entry that the part's map has for it.
-use Rattle.base_lists.proofs.Common.{◌≡◌, ◌∙◌, ap, sym, subst, refl, ℕ, zero, suc, ◌+◌, List, [], ◌∷◌, ◌++◌, map, Some, Bool, true, false, cond, arith, unwrap_or, slice_get, slice_index, flat_map, list_any, slice_index_is, map_at, has_left, has_right, Has, first_at, list_any_there, each_same_is, each_same_self}
+use Rattle.base_lists.proofs.Common.{◌≡◌, ◌∙◌, ap, sym, subst, refl, ℕ, zero, suc, ◌+◌, List, [], ◌∷◌, ◌++◌, map, Some, Bool, true, false, cond, arith, unwrap_or, slice_get, slice_index, flat_map, list_any, slice_index_is, map_at, has_left, has_right, Has, first_at, list_any_there, each_same_is}
+use Rattle.base_lists.proofs.Common.{each_same_self}
 use Rattle.wasm_tree_spec.specs.Prelude.{FuncType, Module, same_type}
 use Rattle.wasm_meaning.specs.Prelude.{same_func_type, Part, module_at, first_place}
 use Rattle.merge_spec.specs.Prelude.{with_type, with_types}

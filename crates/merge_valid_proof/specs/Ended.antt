@@ -2,8 +2,10 @@
 -- merged module.
 use Rattle.std.specs.Prelude.{◌≡◌, ℕ, ◌+◌, ◌-◌, ◌<◌, ◌≤◌, List, length, Option, Some, None, true, slice_index, slice_get, Bool, false}
 use Rattle.wasm_tree_spec.specs.Prelude.{Space, Types, Functions, Tables, Memories, Globals, ElementSegments, DataSegments, FuncType, Import, Module, index_of_export, space_of_export, space_of_import}
-use Rattle.wasm_meaning.specs.Prelude.{Text, Part, Site, End, Defined, Outside, Entity, module_at, import_at, imports_of, pair_of, sites, end_of, linked_end, Owned, defined_count, defined_before, outside_external_value}
-use Rattle.merge_spec.specs.Prelude.{External, asked_at, external_of, same_but_limits, meets_limits, link_fault, stays, merged, merged_types, map_of, staying_of, place_of_end, new_index, starts, start_calls}
+use Rattle.wasm_meaning.specs.Prelude.{Text, Part, Site, End, Defined, Outside, Entity, module_at, import_at, imports_of, pair_of, sites, end_of, linked_end, Owned, defined_count, defined_before}
+use Rattle.wasm_meaning.specs.Prelude.{outside_external_value}
+use Rattle.merge_spec.specs.Prelude.{External, asked_at, external_of, same_but_limits, meets_limits, link_fault, stays, merged, merged_types, map_of, staying_of, place_of_end, new_index, starts}
+use Rattle.merge_spec.specs.Prelude.{start_calls}
 
 -- An import ends with an entity that a part defines and that is what the import asks for.
 pub record EndsInside (parts : List Part) (s : Site) (i : Import) : Type 0 where
@@ -59,7 +61,8 @@ LinkedImportsEnd = (parts : List Part) → link_fault parts true ≡ None → (s
 
 -- a staying import is its own end
 abbrev pub StayingImportsEndThere : Type 0
-StayingImportsEndThere = (parts : List Part) → link_fault parts true ≡ None → (s : Site) (i : Import) → import_at parts s ≡ Some i → stays parts s ≡ true → (end_of parts s ≡ Some (Outside s)) × (linked_end parts s ≡ Some (Outside s))
+StayingImportsEndThere = (parts : List Part) → link_fault parts true ≡ None → (s : Site) (i : Import) → import_at parts s ≡ Some i → stays parts s ≡ true → (end_of parts s ≡ Some (Outside s)) ×
+    (linked_end parts s ≡ Some (Outside s))
 
 -- the sites are the imports that exist
 abbrev pub SitesAreImports : Type 0
@@ -72,7 +75,8 @@ SitesAreImports =
 -- a staying import is at its place among those of its kind
 abbrev pub StayingImportsHavePlaces : Type 0
 StayingImportsHavePlaces =
-    (parts : List Part) (s : Site) (i : Import) → import_at parts s ≡ Some i → stays parts s ≡ true → (k : Space) → space_of_import i.desc ≡ k → slice_get (staying_of parts k) (place_of_end parts k (Outside s)) ≡ Some s
+    (parts : List Part) (s : Site) (i : Import) → import_at parts s ≡ Some i → stays parts s ≡ true → (k : Space) → space_of_import i.desc ≡ k →
+    slice_get (staying_of parts k) (place_of_end parts k (Outside s)) ≡ Some s
 
 -- an index of a part becomes the place of its import's end, or of what the part defines: after the
 -- staying imports and what earlier parts define
@@ -91,7 +95,8 @@ DefinedEntitiesHavePlaces =
 -- each type of a part is where the part's map says
 abbrev pub TypesHavePlaces : Type 0
 TypesHavePlaces =
-    (parts : List Part) (p : ℕ) (m : Module) (x : ℕ) (t : FuncType) → module_at parts p ≡ Some m → slice_get m.types x ≡ Some t → slice_get (merged_types parts) (slice_index (map_of parts p m).types x) ≡ Some t
+    (parts : List Part) (p : ℕ) (m : Module) (x : ℕ) (t : FuncType) → module_at parts p ≡ Some m → slice_get m.types x ≡ Some t →
+    slice_get (merged_types parts) (slice_index (map_of parts p m).types x) ≡ Some t
 
 -- the index spaces of what may be imported and exported
 abbrev pub is_external : Space → Bool

@@ -1,5 +1,6 @@
 -- The functions that are chosen, one by one.
-use Rattle.base_lists.proofs.Common.{◌≡◌, ℕ, ◌+◌, ◌-◌, ◌<◌, List, [], ◌∷◌, ◌++◌, length, Bool, true, false, ◌&&◌, cond, refl, sym, ap, ◌∙◌, arith, get_or, ◌≤◌, zero, suc, slice_index, map, Result, Ok, Err, IfOk, subst, not, IsStrictlyIncreasing, slice_get-get_or, lt-ltb, le-leb, not-true, length-map, right_true, filter-append, numbers_more, numbers_at, length-numbers, slice_index_is}
+use Rattle.base_lists.proofs.Common.{◌≡◌, ℕ, ◌+◌, ◌-◌, ◌<◌, List, [], ◌∷◌, ◌++◌, length, Bool, true, false, ◌&&◌, cond, refl, sym, ap, ◌∙◌, arith, get_or, ◌≤◌, zero, suc, slice_index, map, Result, Ok, Err, IfOk, subst, not, IsStrictlyIncreasing, slice_get-get_or, lt-ltb, le-leb, not-true}
+use Rattle.base_lists.proofs.Common.{length-map, right_true, filter-append, numbers_more, numbers_at, length-numbers, slice_index_is}
 use Rattle.std.proofs.Common.{filter, length-append}
 use Rattle.std.proofs.lemmas.List.Kept.{IsStrictlyIncreasing-filter}
 use Rattle.base_lists.specs.Places.{numbers}

@@ -1,5 +1,6 @@
 -- From what is looked up to the plan and its first fault.
-use Rattle.base_lists.proofs.Common.{◌≡◌, ℕ, ◌<◌, List, [], ◌∷◌, length, map, Bool, true, false, ◌&&◌, ◌⊎◌, inl, inr, ⊎_elim, Option, Some, None, refl, sym, ap, ◌∙◌, arith, slice_get, ◌==◌, not, find, list_any, option_map_or, bytes_eq, ltb-true, length-map, cond_is, right_true, kept_is, option_map_is, map_from}
+use Rattle.base_lists.proofs.Common.{◌≡◌, ℕ, ◌<◌, List, [], ◌∷◌, length, map, Bool, true, false, ◌&&◌, ◌⊎◌, inl, inr, ⊎_elim, Option, Some, None, refl, sym, ap, ◌∙◌, arith, slice_get, ◌==◌, not, find, list_any, option_map_or, bytes_eq, ltb-true, length-map, cond_is, right_true, kept_is}
+use Rattle.base_lists.proofs.Common.{option_map_is, map_from}
 use Rattle.std.proofs.Common.{filter, length-append}
 use Rattle.std.specs.Prelude.{unwrap_or}
 use Rattle.base_lists.specs.Options.{first_given}

@@ -46,7 +46,8 @@ module _ (m : Module) (n : FuncName) (ns : List FuncName) (word : List ℕ) (exp
   pub name_enters : is_defined m n.index ≡ true → entered (entries_with_name m (n ∷ ns) word) exported ≡ cond (bytes_eq n.name word) (once_more n.index (entered (entries_with_name m ns word) exported)) (entered (entries_with_name m ns word) exported)
   name_enters defined = rw (defined, and-true) (split (bytes_eq n.name word))
     where
-      split : (b : Bool) → entered (map (λ x. x.index) (cond b (n ∷ filter (λ x. bytes_eq x.name word && is_defined m x.index) ns) (filter (λ x. bytes_eq x.name word && is_defined m x.index) ns))) exported ≡ cond b (once_more n.index (entered (entries_with_name m ns word) exported)) (entered (entries_with_name m ns word) exported)
+      split : (b : Bool) → entered (map (λ x. x.index) (cond b (n ∷ filter (λ x. bytes_eq x.name word && is_defined m x.index) ns) (filter (λ x. bytes_eq x.name word && is_defined m x.index) ns))) exported ≡
+          cond b (once_more n.index (entered (entries_with_name m ns word) exported)) (entered (entries_with_name m ns word) exported)
       split true = one_more n.index (entries_with_name m ns word) exported
       split false = refl
 

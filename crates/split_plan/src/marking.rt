@@ -92,7 +92,8 @@ pub fn refuse_kept(
     words: &[Name],
 ) -> Result<(), PlanFault>
     ensures none { IsOk result → first_given (λ word. kept_fault (λ func. unwrap_or (slice_get kept.now func) false) (func_in (held_of table.now word)) word) words.now ≡ None }
-    ensures fault { IfErr result (λ e. (e ≡ OutOfMemory) ⊎ (first_given (λ word. kept_fault (λ func. unwrap_or (slice_get kept.now func) false) (func_in (held_of table.now word)) word) words.now ≡ Some e)) }
+    ensures fault { IfErr result (λ e. (e ≡ OutOfMemory) ⊎ (first_given (λ word. kept_fault (λ func. unwrap_or (slice_get kept.now func) false) (func_in (held_of table.now word)) word) words.now ≡
+        Some e)) }
 {
     for word in words {
         refuse_one(alloc, table, kept, word)?;

@@ -5,7 +5,8 @@ use Rattle.base_lists.specs.Options.{◌>>=◌, all_there}
 use Rattle.wasm_tree_spec.specs.Prelude.{Module, IsBounded}
 use Rattle.wasm_valid.specs.Prelude.{IsValid, ValidWhereItemsHold}
 use Rattle.base_simulation.specs.Machines.{state_after}
-use Rattle.wasm_meaning.specs.Prelude.{Gives, Inst, Store, Opening, CallsPlaceholder, Environment, Begun, address_in, Added, added, Move, InstanceTrapped, Out, Steps, Makes, Pending, Closed, began, fresh_run, LoaderWorld, LoaderRun, secondary_of, store_under, supplied, primary_added, begun_of, loader_made, tick_loader, fresh_loader}
+use Rattle.wasm_meaning.specs.Prelude.{Gives, Inst, Store, Opening, CallsPlaceholder, Environment, Begun, address_in, Added, added, Move, InstanceTrapped, Out, Steps, Makes, Pending, Closed, began, fresh_run, LoaderWorld, LoaderRun, secondary_of, store_under, supplied, primary_added, begun_of}
+use Rattle.wasm_meaning.specs.Prelude.{loader_made, tick_loader, fresh_loader}
 use Rattle.index_remap.specs.Prelude.{IsBegun}
 use Rattle.world_contents_proof.specs.Leaves.{AddedModulesLeave}
 use Rattle.world_extension_proof.specs.Extends.{CallsExtend, LoadersExtend}
@@ -102,7 +103,12 @@ module _ (laws : LoadLaws) (namespace : ℕ → List ℕ) (names : SplitNames) (
             subst (λ s. IsTyped w.primary a.inst s) (ap (λ (b : Begun). b.store) (same_Some _ _ view.2)) (laws.typed (store_under env w) w.primary things.0 a things.2)
 
         by : (c : Bool) →
-            Stage (record { run = (cond {A = Out} c (record (fresh_run env (Some b) moves) { store = b.store; entries = []; phase = Closed; owned = b.owned }, Some InstanceTrapped) (record (fresh_run env (Some b) moves) { store = b.store; entries = Opening b.starts ∷ []; phase = Pending b.view; owned = b.owned }, None)).0; inst = Some a.inst; loaded = (fresh_loader env w moves).loaded })
+            Stage (record {
+              run = (cond {A = Out} c (record (fresh_run env (Some b) moves) { store = b.store; entries = []; phase = Closed; owned = b.owned }, Some InstanceTrapped)
+                  (record (fresh_run env (Some b) moves) { store = b.store; entries = Opening b.starts ∷ []; phase = Pending b.view; owned = b.owned }, None)).0;
+              inst = Some a.inst;
+              loaded = (fresh_loader env w moves).loaded;
+            })
         by true = over (record { phase = refl; entries = refl })
         by false = going tt a.inst refl typed
 

@@ -34,7 +34,8 @@ placeholder_there namespace m from (x ∷ fs) zero f at =
     ap₂ (λ n g. Some ((namespace n, decimal n), type_in m g)) e same
 placeholder_there namespace m from (x ∷ fs) (suc p) f at = let e : suc from + p ≡ from + suc p = omega arith in placeholder_there namespace m (suc from) fs p f at ∙ ap (λ n. Some ((namespace n, decimal n), type_in m f)) e
 
-module _ (laws : SettleLaws) (answered : PlaceholdersAreAnswered) (namespace : ℕ → List ℕ) (names : SplitNames) (m : Module) (moved : List ℕ) (owns : List (List ℕ)) (g : CanBeSplit namespace names m moved owns) (env : Environment) (first second : Inst) (alike : InstancesAreRelated env m moved first second) (most : ℕ) where
+module _ (laws : SettleLaws) (answered : PlaceholdersAreAnswered) (namespace : ℕ → List ℕ) (names : SplitNames) (m : Module) (moved : List ℕ) (owns : List (List ℕ)) (g : CanBeSplit namespace names m moved owns) (env : Environment) (first second : Inst)
+    (alike : InstancesAreRelated env m moved first second) (most : ℕ) where
   abbrev pub world : LoaderWorld
   world = w laws namespace names m moved owns g env first second alike
 
@@ -59,7 +60,8 @@ module _ (laws : SettleLaws) (answered : PlaceholdersAreAnswered) (namespace : �
 
   -- ---- the function is in its slot ----
 
-  module _ (loaded : List (ℕ × ℕ)) (r : Run) (q : LoaderRun) (h : Corresponds env m moved world first second loaded r q) (ms : List Move) (vs ws : List Val) (es fs : List Entry) (v : ListRel (ValRel (split_pairing env m moved loaded)) vs ws) {u : FuncType} {a c : ℕ} (k : CodeAt (split_pairing env m moved loaded) r.store q.run.store u a c) (below : Below (split_pairing env m moved loaded) u es fs)
+  module _ (loaded : List (ℕ × ℕ)) (r : Run) (q : LoaderRun) (h : Corresponds env m moved world first second loaded r q) (ms : List Move) (vs ws : List Val) (es fs : List Entry) (v : ListRel (ValRel (split_pairing env m moved loaded)) vs ws) {u : FuncType} {a c : ℕ}
+      (k : CodeAt (split_pairing env m moved loaded) r.store q.run.store u a c) (below : Below (split_pairing env m moved loaded) u es fs)
       (first_is : transition r ≡ Steps (record r { moves = ms }) (enter_at r.store a vs es)) where
     abbrev pub there : LoaderRun
     there = record q { run = record q.run { moves = ms; entries = Running (second_frame k ws) ∷ fs } }
@@ -173,7 +175,8 @@ module _ (laws : SettleLaws) (answered : PlaceholdersAreAnswered) (namespace : �
           let x = at (record q.run { moves = ms }) t gs in
           let last : tick_loader world (calling t gs) ≡ (loaded_there, None) =
           answered world (calling t gs) x p ws q.run.store fs (step_is (record q.run { moves = ms }) t gs (CallsPlaceholder p ws q.run.store fs) calls) (is_answered t gs)
-          ∙ ap (λ (o : Out). (with_loaded (calling t gs) z.secondary o.0, o.1)) (ap (run_after (record x { store = later.run.store; entries = fs })) (enters_code later.run.store in_place.func (type_in m f) in_place.code.second_inst in_place.code.locals in_place.code.second_code in_place.code.second ws fs)) in
+          ∙ ap (λ (o : Out). (with_loaded (calling t gs) z.secondary o.0, o.1)) (ap (run_after (record x { store = later.run.store; entries = fs }))
+          (enters_code later.run.store in_place.func (type_in m f) in_place.code.second_inst in_place.code.locals in_place.code.second_code in_place.code.second ws fs)) in
           record {
             further = n;
             bound = le;

@@ -1,8 +1,10 @@
 -- What functions stand in the stores in which a module and its split begin.
-use Rattle.base_lists.proofs.Common.{◌≡◌, ◌∙◌, ap, ap₂, sym, subst, refl, ℕ, zero, suc, ◌+◌, ◌-◌, ◌⊎◌, inl, inr, List, [], ◌∷◌, ◌++◌, map, length, Option, Some, None, true, arith, append-nil, option_and_then, slice_get, slice_index, pos, option_map_or, length-append, same_Some, numbers_index, and_then_is, all_there_at, append_at_left, append_from, append_right, map_from, map_twice, slice_get_there, slice_index_is, all_there_back, there_among, place_is, no_place}
+use Rattle.base_lists.proofs.Common.{◌≡◌, ◌∙◌, ap, ap₂, sym, subst, refl, ℕ, zero, suc, ◌+◌, ◌-◌, ◌⊎◌, inl, inr, List, [], ◌∷◌, ◌++◌, map, length, Option, Some, None, true, arith, append-nil, option_and_then, slice_get, slice_index, pos, option_map_or, length-append, same_Some, numbers_index}
+use Rattle.base_lists.proofs.Common.{and_then_is, all_there_at, append_at_left, append_from, append_right, map_from, map_twice, slice_get_there, slice_index_is, all_there_back, there_among, place_is, no_place}
 use Rattle.wasm_tree_spec.specs.Prelude.{FuncType, Module, funcs_of, tables_of, type_of_func, Functions}
 use Rattle.wasm_tree.specs.declared.module.Func as tree
-use Rattle.wasm_meaning.specs.Prelude.{Code, Func, Inst, Own, Pair, Placeholder, Store, Environment, own_funcs, Added, added, next_inst, LoaderWorld, begun_of, begun_under, placeholders_from, placeholders_of, primary_added, store_under, supplied, Begun, all_there, alone, const_value, insts_from, instantiate, joined_stores, new_func, own_count}
+use Rattle.wasm_meaning.specs.Prelude.{Code, Func, Inst, Own, Pair, Placeholder, Store, Environment, own_funcs, Added, added, next_inst, LoaderWorld, begun_of, begun_under, placeholders_from, placeholders_of, primary_added, store_under, supplied, Begun, all_there, alone, const_value, insts_from}
+use Rattle.wasm_meaning.specs.Prelude.{instantiate, joined_stores, new_func, own_count}
 use Rattle.index_remap.specs.declared.remap.Remap.{Remap}
 use Rattle.index_remap.specs.Prelude.{renumbered_all, gets, slot_call, trampoline}
 use Rattle.index_remap.specs.Renumbered as tree_with
@@ -29,7 +31,8 @@ own_are_own : (env : Environment) (n : ℕ) (f : Func) → slice_get (own_funcs 
 own_are_own [] n f at = absurd (let e = at in cc)
 own_are_own (o ∷ env) n f at = by (own_are_own env) (append_from (map (Own o.pair) o.funcs) (own_funcs env) n f at)
   where
-    by : ((n : ℕ) (f : Func) → slice_get (own_funcs env) n ≡ Some f → (p : Pair) × (u : FuncType) × (f ≡ Own p u)) → (slice_get (map (Own o.pair) o.funcs) n ≡ Some f) ⊎ ((l : ℕ) × (n ≡ length (map (Own o.pair) o.funcs) + l) × (slice_get (own_funcs env) l ≡ Some f)) → (p : Pair) × (u : FuncType) × (f ≡ Own p u)
+    by : ((n : ℕ) (f : Func) → slice_get (own_funcs env) n ≡ Some f → (p : Pair) × (u : FuncType) × (f ≡ Own p u)) → (slice_get (map (Own o.pair) o.funcs) n ≡ Some f) ⊎ ((l : ℕ) × (n ≡ length (map (Own o.pair) o.funcs) + l) × (slice_get (own_funcs env) l ≡ Some f)) →
+        (p : Pair) × (u : FuncType) × (f ≡ Own p u)
     by rest (inl h) = let u = map_from (Own o.pair) o.funcs n f h in (o.pair, u.0, sym u.2)
     by rest (inr l) = rest l.0 f l.2
 

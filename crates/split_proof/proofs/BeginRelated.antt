@@ -1,5 +1,6 @@
 -- A module alone, and its primary module with stubs in place of its placeholders: what they define, their segments, views and starts correspond.
-use Rattle.base_lists.proofs.Common.{◌≡◌, ◌∙◌, ap, sym, subst, refl, ℕ, zero, suc, ◌+◌, ◌<◌, List, [], ◌∷◌, ◌++◌, map, take, length, Option, Some, Bool, true, false, cond, arith, option_map, append-nil, ⊎_elim, slice_get, slice_index, cons_option, length-map, map-id, slice_get_within, same_Some, length-numbers, numbers_index, append_at_left, append_left, map_at, push_last, slice_get_there, cases_Bool, append_rel, then_rel, there_contains}
+use Rattle.base_lists.proofs.Common.{◌≡◌, ◌∙◌, ap, sym, subst, refl, ℕ, zero, suc, ◌+◌, ◌<◌, List, [], ◌∷◌, ◌++◌, map, take, length, Option, Some, Bool, true, false, cond, arith, option_map, append-nil, ⊎_elim, slice_get, slice_index, cons_option, length-map, map-id, slice_get_within, same_Some}
+use Rattle.base_lists.proofs.Common.{length-numbers, numbers_index, append_at_left, append_left, map_at, push_last, slice_get_there, cases_Bool, append_rel, then_rel, there_contains}
 use Rattle.base_lists.proofs.Same.{text_is, text_self}
 use Rattle.std.proofs.Common.{filter_map}
 use Rattle.base_lists.specs.Places.{numbers}
@@ -226,7 +227,18 @@ module _ (laws : Laws) (namespace : ℕ → List ℕ) (names : SplitNames) (m : 
         let count = length-numbers (length (funcs_of m)) (length moved) in
         order.ElemAlone.active {n = 0} {a = slot_table_address env m} (ap (slice_get j.tables) entry ∙ slots_there laws namespace names m moved owns g env i j a b loaded)
         (λ c related. let s = partner_same Tables refl c (slot_table_address env m) related in let e = s.0 in let lt = s.1 in omega (arith, e, lt))
-        (record { part = 0; of = primary; is_part = refl; inst = j; is_inst = refl; place = length m.tables; definition = slot_table_type (length moved); stands = ap (λ ts. slice_get ts (length m.tables)) (tables_are laws namespace names m moved owns g) ∙ push_last m.tables (slot_table_type (length moved)); address = omega arith })
+        (record {
+          part = 0;
+          of = primary;
+          is_part = refl;
+          inst = j;
+          is_inst = refl;
+          place = length m.tables;
+          definition = slot_table_type (length moved);
+          stands = ap (λ ts. slice_get ts (length m.tables)) (tables_are laws namespace names m moved owns g) ∙
+              push_last m.tables (slot_table_type (length moved));
+          address = omega arith;
+        })
         (λ c related. let s = partner_same ElementSegments refl c (0 + length m.elems) related in let e = s.0 in let lt = s.1 in omega (arith, e, lt))
         refl (omega (arith, many, each, count))
 

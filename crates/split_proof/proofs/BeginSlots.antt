@@ -1,5 +1,6 @@
 -- When a split module begins, each slot holds its placeholder.
-use Rattle.base_lists.proofs.Common.{◌≡◌, ◌∙◌, ap, ap₂, sym, refl, ℕ, zero, suc, ◌+◌, ◌-◌, ◌<◌, ◌≤◌, List, [], ◌∷◌, ◌++◌, map, length, Option, Some, None, Bool, true, false, cond, arith, append-nil, slice_get, slice_index, nat_lt, flat_map, nat_tests, length-append, length-map, map-append, slice_get_within, same_Some, places_many, length-numbers, numbers_at, numbers_index, append_right, map_at, push_last, copies_length}
+use Rattle.base_lists.proofs.Common.{◌≡◌, ◌∙◌, ap, ap₂, sym, refl, ℕ, zero, suc, ◌+◌, ◌-◌, ◌<◌, ◌≤◌, List, [], ◌∷◌, ◌++◌, map, length, Option, Some, None, Bool, true, false, cond, arith, append-nil, slice_get, slice_index, nat_lt, flat_map, nat_tests, length-append, length-map, map-append}
+use Rattle.base_lists.proofs.Common.{slice_get_within, same_Some, places_many, length-numbers, numbers_at, numbers_index, append_right, map_at, push_last, copies_length}
 use Rattle.std.proofs.Common.{eq-eqb}
 use Rattle.base_lists.specs.Options.{◌>>=◌}
 use Rattle.base_lists.specs.Places.{numbers}
@@ -57,7 +58,8 @@ slot_secondary namespace names m moved before [] slot lt = absurd (omega (arith,
 slot_secondary namespace names m moved before (own ∷ owns) slot lt = by (nat_lt slot (length (placeholders_for namespace m before own))) refl (λ less. slot_secondary namespace names m moved (before + length own) owns (slot - length (placeholders_for namespace m before own)) less)
   where
     by : (c : Bool) → nat_lt slot (length (placeholders_for namespace m before own)) ≡ c →
-        (slot - length (placeholders_for namespace m before own) < length (flat_map (λ own. own) owns) → (j : ℕ) × (secondary_of (secondaries_for namespace names m moved (before + length own) owns) (slot - length (placeholders_for namespace m before own)) ≡ Some j) × (slice_get (map (λ s. false) (secondaries_for namespace names m moved (before + length own) owns)) j ≡ Some false)) →
+        (slot - length (placeholders_for namespace m before own) < length (flat_map (λ own. own) owns) → (j : ℕ) × (secondary_of (secondaries_for namespace names m moved (before + length own) owns) (slot - length (placeholders_for namespace m before own)) ≡ Some j) ×
+        (slice_get (map (λ s. false) (secondaries_for namespace names m moved (before + length own) owns)) j ≡ Some false)) →
         (j : ℕ) × (secondary_of (secondaries_for namespace names m moved before (own ∷ owns)) slot ≡ Some j) × (slice_get (map (λ s. false) (secondaries_for namespace names m moved before (own ∷ owns))) j ≡ Some false)
     by true e rest = (0, ap (λ c. cond c (Some 0) (secondary_of (secondaries_for namespace names m moved (before + length own) owns) (slot - length (placeholders_for namespace m before own)) >>= λ j. Some (suc j))) e, refl)
     by false e rest =
@@ -70,7 +72,8 @@ slot_secondary namespace names m moved before (own ∷ owns) slot lt = by (nat_l
           r.2,
         )
 
-module _ (laws : Laws) (namespace : ℕ → List ℕ) (names : SplitNames) (m : Module) (moved : List ℕ) (owns : List (List ℕ)) (g : CanBeSplit namespace names m moved owns) (env : Environment) (begun : Begun) (h : instantiate env (alone m) ≡ Some begun) (c : Begun) (l : begun_under env (split laws namespace names m moved owns g) ≡ Some c) where
+module _ (laws : Laws) (namespace : ℕ → List ℕ) (names : SplitNames) (m : Module) (moved : List ℕ) (owns : List (List ℕ)) (g : CanBeSplit namespace names m moved owns) (env : Environment) (begun : Begun) (h : instantiate env (alone m) ≡ Some begun) (c : Begun)
+    (l : begun_under env (split laws namespace names m moved owns g) ≡ Some c) where
   abbrev valid : ItemsHold m
   valid = holds laws namespace names m moved owns g
 

@@ -13,7 +13,8 @@ use Rattle.split_proof.proofs.Begins.{begin_alike}
 use Rattle.split_proof.proofs.BeginFuncs.{first_moves, first_plain, second_begins, second_trampolines, second_waits}
 use Rattle.split_proof.proofs.BeginSlots as slots
 
-module _ (laws : Laws) (namespace : ℕ → List ℕ) (names : SplitNames) (m : Module) (moved : List ℕ) (owns : List (List ℕ)) (g : CanBeSplit namespace names m moved owns) (env : Environment) (moves : List Move) (b : Begun) (h : instantiate env (alone m) ≡ Some b) (c : Begun) (l : begun_under env (split laws namespace names m moved owns g) ≡ Some c) where
+module _ (laws : Laws) (namespace : ℕ → List ℕ) (names : SplitNames) (m : Module) (moved : List ℕ) (owns : List (List ℕ)) (g : CanBeSplit namespace names m moved owns) (env : Environment) (moves : List Move) (b : Begun) (h : instantiate env (alone m) ≡ Some b) (c : Begun)
+    (l : begun_under env (split laws namespace names m moved owns g) ≡ Some c) where
   abbrev w : LoaderWorld
   w = split laws namespace names m moved owns g
 

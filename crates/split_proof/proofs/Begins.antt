@@ -2,7 +2,8 @@
 use Rattle.base_lists.proofs.Common.{◌≡◌, ◌∙◌, ap, sym, subst, refl, ℕ, suc, ◌+◌, ◌-◌, ◌<◌, ◌≤◌, ◌⊎◌, inl, inr, List, [], ◌∷◌, ◌++◌, drop, length, Option, Some, None, Bool, true, false, arith, slice_get, same_Some, and_then_is, append_at_left, append_right, drop_at, slice_get_there}
 use Rattle.base_lists.specs.Options.{◌>>=◌}
 use Rattle.wasm_tree_spec.specs.Prelude.{Functions, Module}
-use Rattle.wasm_meaning.specs.Prelude.{Entry, Func, Store, Text, Environment, ExternalValue, own_funcs, owned_of, Added, added, next_inst, LoaderWorld, begun_of, begun_under, placeholders_from, placeholders_of, primary_added, store_under, supplied, Move, began, fresh_run, tick, Begun, address_in, all_there, alone, const_value, instantiate, joined_stores, new_func, own_count, own_segments, start_in, store_with, Inst}
+use Rattle.wasm_meaning.specs.Prelude.{Entry, Func, Store, Text, Environment, ExternalValue, own_funcs, owned_of, Added, added, next_inst, LoaderWorld, begun_of, begun_under, placeholders_from, placeholders_of, primary_added, store_under, supplied, Move, began, fresh_run, tick, Begun, address_in}
+use Rattle.wasm_meaning.specs.Prelude.{all_there, alone, const_value, instantiate, joined_stores, new_func, own_count, own_segments, start_in, store_with, Inst}
 use Rattle.index_remap.specs.Prelude.{Pairing, OptRel, none, some, ListRel, nil, cons, EntryRel, StoreRel, BegunRel, closed, pending, EntryByEntry, FramesBetween, WithPassing}
 use Rattle.index_remap.specs.Trampolines as between
 use Rattle.world_simulation.specs.Prelude.{AddsWith}

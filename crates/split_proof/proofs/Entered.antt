@@ -34,7 +34,8 @@ pub data Below (R : Pairing) (u : FuncType) : List Entry → List Entry → Type
   direct : {es fs : List Entry} → WithPassing R es fs → Below R u es fs
   by_trampoline : {es fs : List Entry} (inst : Inst) (locals : List Val) → WithPassing R es fs → Below R u es (Running (passing inst locals u.results) ∷ fs)
 
-pub over_them : {R : Pairing} {u : FuncType} {es fs : List Entry} (i j : Inst) (vs ws : List Val) (ls ms : List ValType) (c d : List Instr) → Below R u es fs → FrameRel R (frame_in i vs ls u c) (frame_in j ws ms u d) → WithPassing R (Running (frame_in i vs ls u c) ∷ es) (Running (frame_in j ws ms u d) ∷ fs)
+pub over_them : {R : Pairing} {u : FuncType} {es fs : List Entry} (i j : Inst) (vs ws : List Val) (ls ms : List ValType) (c d : List Instr) → Below R u es fs → FrameRel R (frame_in i vs ls u c) (frame_in j ws ms u d) →
+    WithPassing R (Running (frame_in i vs ls u c) ∷ es) (Running (frame_in j ws ms u d) ∷ fs)
 over_them i j vs ws ls ms c d (direct e) f = between.WithPassing.cons (running f) e
 over_them i j vs ws ls ms c d (by_trampoline inst locals e) f = through f inst locals e
 
@@ -63,7 +64,8 @@ module _ (env : Environment) (m : Module) (moved : List ℕ) (w : LoaderWorld) (
   holds_stay e f (filled c refers code) = filled c refers (code_stays e f code)
 
   -- so where functions stay, and the slot table, all functions stand
-  pub funcs_stay : {s z : Store} {q p : LoaderRun} → (h : FuncsComeFrom env m moved w first second loaded s q) → z.funcs ≡ s.funcs → p.run.store.funcs ≡ q.run.store.funcs → slice_get p.run.store.tables (slot_table_address env m) ≡ slice_get q.run.store.tables (slot_table_address env m) → p.loaded ≡ q.loaded →
+  pub funcs_stay : {s z : Store} {q p : LoaderRun} → (h : FuncsComeFrom env m moved w first second loaded s q) → z.funcs ≡ s.funcs → p.run.store.funcs ≡ q.run.store.funcs → slice_get p.run.store.tables (slot_table_address env m) ≡ slice_get q.run.store.tables (slot_table_address env m) →
+      p.loaded ≡ q.loaded →
       FuncsComeFrom env m moved w first second loaded z p
   funcs_stay {s} {z} {q} {p} h e f table l = record {
     plain = λ a n u at. h.plain a n u (ap (λ fs. slice_get fs a) (sym e) ∙ at);

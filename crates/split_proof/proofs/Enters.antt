@@ -48,7 +48,8 @@ params_few m (x ∷ moved) (suc p) f at = let l = params_few m moved p f at in o
 code_typed : {R : Pairing} {s t : Store} {u v : FuncType} {a c : ℕ} → CodeAt R s t u a c → type_at s a ≡ Some v → v ≡ u
 code_typed k h = same_Some _ _ (sym h ∙ ap (λ o. o >>= λ f. Some (type_of f)) k.first)
 
-module _ (laws : SettleLaws) (answered : PlaceholdersAreAnswered) (tramp : TrampolinesEnterSlots) (namespace : ℕ → List ℕ) (names : SplitNames) (m : Module) (moved : List ℕ) (owns : List (List ℕ)) (g : CanBeSplit namespace names m moved owns) (env : Environment) (first second : Inst) (alike : InstancesAreRelated env m moved first second) where
+module _ (laws : SettleLaws) (answered : PlaceholdersAreAnswered) (tramp : TrampolinesEnterSlots) (namespace : ℕ → List ℕ) (names : SplitNames) (m : Module) (moved : List ℕ) (owns : List (List ℕ)) (g : CanBeSplit namespace names m moved owns) (env : Environment) (first second : Inst)
+    (alike : InstancesAreRelated env m moved first second) where
   abbrev w : LoaderWorld
   w = world laws answered namespace names m moved owns g env first second alike (most_params m moved)
 
@@ -113,7 +114,8 @@ module _ (laws : SettleLaws) (answered : PlaceholdersAreAnswered) (tramp : Tramp
         by k (part n lt t fs silent is_it other) = absurd (other q.run.store (Running (second_frame k e.second_values) ∷ under) refl)
 
     -- its placeholder is
-    loaded_then : (z : SlotIs env m moved w loaded r.store q h.funcs.table p f) (waiting : z.is_loaded ≡ false) → slice_get h.funcs.table.slots p ≡ Some (FuncRef (Some (own_count Functions env + p))) → slice_get q.run.store.funcs (own_count Functions env + p) ≡ Some (Placeholder p u) → StepAnswered env m moved w first second (most_params m moved) r q
+    loaded_then : (z : SlotIs env m moved w loaded r.store q h.funcs.table p f) (waiting : z.is_loaded ≡ false) → slice_get h.funcs.table.slots p ≡ Some (FuncRef (Some (own_count Functions env + p))) → slice_get q.run.store.funcs (own_count Functions env + p) ≡ Some (Placeholder p u) →
+        StepAnswered env m moved w first second (most_params m moved) r q
     loaded_then z waiting refers there =
         let k = in_place laws answered namespace names m moved owns g env first second alike (most_params m moved) loaded r q h p f is z waiting e.moves e.values e.second_values e.below under e.related in
         let have = have_types (code_typed k.code typed) in
@@ -126,7 +128,8 @@ module _ (laws : SettleLaws) (answered : PlaceholdersAreAnswered) (tramp : Tramp
         by (part n lt t fs silent is_it other) =
             let l = few in
             loaded_first laws answered namespace names m moved owns g env first second alike (most_params m moved) loaded r q h p f is z waiting e.moves e.values e.second_values e.below under e.related
-            (by_trampoline second e.second_values (stack_still laws answered namespace names m moved owns g env first second alike (most_params m moved) loaded r q h p f is z waiting e.moves e.values e.second_values e.below under e.related e.stacks)) first_step (suc n) (omega (arith, lt, l)) t fs (before first_tick silent) is_it
+            (by_trampoline second e.second_values (stack_still laws answered namespace names m moved owns g env first second alike (most_params m moved) loaded r q h p f is z waiting e.moves e.values e.second_values e.below under e.related e.stacks)) first_step (suc n) (omega (arith, lt, l)) t fs
+            (before first_tick silent) is_it
 
     by_slot : StepAnswered env m moved w first second (most_params m moved) r q
     by_slot = by (h.funcs.slots p f is)

@@ -1,9 +1,11 @@
 -- What the indices of the module name, and what their entries name in the primary module with stubs in place of its placeholders.
-use Rattle.base_lists.proofs.Common.{◌≡◌, ◌∙◌, ap, sym, subst, refl, ℕ, zero, suc, ◌+◌, ◌-◌, ◌<◌, ◌≤◌, ◌&&◌, ◌⊎◌, inl, inr, List, [], ◌∷◌, ◌++◌, map, length, drop, Option, Some, Bool, true, arith, option_and_then, slice_get, slice_index, IsTrue, cases_lt, length-append, length-map, map-append, slice_get_within, same_Some, left_true, right_true, has_chosen, length-numbers, places_many, numbers_at, numbers_index, append_left, append_right, map_at, slice_get_there, and_from, get_rel, opt_at, then_rel, among_right, there_among}
+use Rattle.base_lists.proofs.Common.{◌≡◌, ◌∙◌, ap, sym, subst, refl, ℕ, zero, suc, ◌+◌, ◌-◌, ◌<◌, ◌≤◌, ◌&&◌, ◌⊎◌, inl, inr, List, [], ◌∷◌, ◌++◌, map, length, drop, Option, Some, Bool, true, arith, option_and_then, slice_get, slice_index, IsTrue, cases_lt, length-append, length-map, map-append}
+use Rattle.base_lists.proofs.Common.{slice_get_within, same_Some, left_true, right_true, has_chosen, length-numbers, places_many, numbers_at, numbers_index, append_left, append_right, map_at, slice_get_there, and_from, get_rel, opt_at, then_rel, among_right, there_among}
 use Rattle.base_lists.specs.Places.{numbers}
 use Rattle.base_kept.specs.Kept.{kept}
 use Rattle.base_kept.proofs.Laws.{kept_at}
-use Rattle.wasm_tree_spec.specs.Prelude.{Space, Types, Functions, Tables, Memories, Globals, ElementSegments, DataSegments, ConstExpr, DataMode, ElemMode, ElemSeg, DataSeg, Export, ExportDesc, Module, ImportDesc, RefType, I32, imported_funcs, imported_tables, imported_memories, imported_globals, funcs_of, tables_of, memories_of, globals_of}
+use Rattle.wasm_tree_spec.specs.Prelude.{Space, Types, Functions, Tables, Memories, Globals, ElementSegments, DataSegments, ConstExpr, DataMode, ElemMode, ElemSeg, DataSeg, Export, ExportDesc, Module, ImportDesc, RefType, I32, imported_funcs, imported_tables, imported_memories, imported_globals}
+use Rattle.wasm_tree_spec.specs.Prelude.{funcs_of, tables_of, memories_of, globals_of}
 use Rattle.wasm_tree.specs.declared.module.ConstExpr.TheVariants as const
 use Rattle.wasm_tree.specs.declared.module.DataMode.TheVariants as «data»
 use Rattle.wasm_tree.specs.declared.module.ElemMode.TheVariants as elem
@@ -338,12 +340,15 @@ module _ (laws : Laws) (namespace : ℕ → List ℕ) (names : SplitNames) (m : 
           let types = length-map m.globals (λ d. d.ty) in
           let counted : length (imports_of Globals m) ≡ length (imported_globals m.imports) = places_many _ _ m.imports (grind arith) 0 in
           let many = globals_many in
-          stays_named Globals i.globals j.globals (length (globals_of m)) (length (globals_of m)) (omega arith) (λ x lt. grown Globals i.globals j.globals a.globals b.globals (omega (arith, many)) (its_partner Globals refl) x (omega (arith, lt, all, types, counted))) x (left_true (with_entry old Globals x) true h)
+          stays_named Globals i.globals j.globals (length (globals_of m)) (length (globals_of m)) (omega arith) (λ x lt. grown Globals i.globals j.globals a.globals b.globals (omega (arith, many)) (its_partner Globals refl) x (omega (arith, lt, all, types, counted))) x
+          (left_true (with_entry old Globals x) true h)
       entries ElementSegments x h =
-          stays_named ElementSegments i.elems j.elems (length m.elems) (length m.elems) (omega arith) (segment_stays ElementSegments i.elems j.elems (length m.elems) (length Q.elems) a.elems b.elems elems_more (λ c lt. its_partner ElementSegments refl c (omega (arith, lt)))) x (left_true (with_entry old ElementSegments x) true h)
+          stays_named ElementSegments i.elems j.elems (length m.elems) (length m.elems) (omega arith) (segment_stays ElementSegments i.elems j.elems (length m.elems) (length Q.elems) a.elems b.elems elems_more (λ c lt. its_partner ElementSegments refl c (omega (arith, lt)))) x
+          (left_true (with_entry old ElementSegments x) true h)
       entries DataSegments x h =
           let many = datas_many in
-          stays_named DataSegments i.datas j.datas (length m.datas) (length m.datas) (omega arith) (segment_stays DataSegments i.datas j.datas (length m.datas) (length Q.datas) a.datas b.datas (omega (arith, many)) (λ c lt. its_partner DataSegments refl c (omega (arith, lt)))) x (left_true (with_entry old DataSegments x) true h)
+          stays_named DataSegments i.datas j.datas (length m.datas) (length m.datas) (omega arith) (segment_stays DataSegments i.datas j.datas (length m.datas) (length Q.datas) a.datas b.datas (omega (arith, many)) (λ c lt. its_partner DataSegments refl c (omega (arith, lt)))) x
+          (left_true (with_entry old DataSegments x) true h)
 
       -- ---- constant expressions ----
 

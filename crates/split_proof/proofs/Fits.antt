@@ -1,5 +1,6 @@
 -- The maps of a split have an entry for each index that is named in the trees that they renumber.
-use Rattle.base_lists.proofs.Common.{slice_get_within, ◌≡◌, ◌∙◌, ap, sym, subst, refl, ℕ, suc, ◌<◌, ◌≤◌, List, [], ◌∷◌, ◌++◌, length, Bool, true, ◌&&◌, Some, slice_get, arith, map, ◌+◌, IsTrue, ℤ, pos, list_all, lt-ltb, ltb-true, list_all-append, left_true, right_true, list_all_each, list_all_from, length-numbers, numbers_at, slice_get_there, slice_index_is, map_from, and_from}
+use Rattle.base_lists.proofs.Common.{slice_get_within, ◌≡◌, ◌∙◌, ap, sym, subst, refl, ℕ, suc, ◌<◌, ◌≤◌, List, [], ◌∷◌, ◌++◌, length, Bool, true, ◌&&◌, Some, slice_get, arith, map, ◌+◌, IsTrue, ℤ, pos, list_all, lt-ltb, ltb-true, list_all-append, left_true, right_true, list_all_each, list_all_from}
+use Rattle.base_lists.proofs.Common.{length-numbers, numbers_at, slice_get_there, slice_index_is, map_from, and_from}
 use Rattle.base_lists.specs.Places.{numbers}
 use Rattle.wasm_tree_spec.specs.Prelude.{Operand, Types, Tables, ValType, Call, CallIndirect, I32Const, LocalGet, fold_out-Instr, Func, ImportDesc, Module, all_operands_pass, called, operands_pass, funcs_of, tables_of, memories_of, globals_of}
 use Rattle.wasm_tree.specs.declared.instr.Instr.{out-Instr}
@@ -53,7 +54,8 @@ module _ (test : Operand → Bool) where
 
   indirect_passes : (ty table : ℕ) → test (named Types ty) ≡ true → test (named Tables table) ≡ true → operands_pass test (CallIndirect ty table) ≡ true
   unfolding out-Instr denote.Hole.Carrier.out
-  indirect_passes ty table h k = fold_out-Instr Bool (all_pass_step test) (CallIndirect ty table) ∙ and_from (test (named Types ty) && (test (named Tables table) && true)) true (and_from (test (named Types ty)) (test (named Tables table) && true) h (and_from (test (named Tables table)) true k refl)) refl
+  indirect_passes ty table h k = fold_out-Instr Bool (all_pass_step test) (CallIndirect ty table) ∙ and_from (test (named Types ty) && (test (named Tables table) && true)) true
+      (and_from (test (named Types ty)) (test (named Tables table) && true) h (and_from (test (named Tables table)) true k refl)) refl
 
   const_passes : (v : ℤ) → operands_pass test (I32Const v) ≡ true
   unfolding out-Instr denote.Hole.Carrier.out

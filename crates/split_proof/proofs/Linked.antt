@@ -1,9 +1,11 @@
 -- An environment links a module exactly where it links the primary module of its split with stubs in place of the placeholders.
-use Rattle.base_lists.proofs.Common.{◌≡◌, ◌∙◌, add-zero, ap, ap₂, sym, subst, refl, ℕ, zero, suc, ◌+◌, ◌<◌, ◌⊎◌, inl, inr, List, [], ◌∷◌, ◌++◌, map, length, Option, Some, None, Bool, true, false, cond, arith, option_and_then, slice_get, slice_index, length-append, length-map, slice_get_within, same_Some, length-numbers, numbers_at, and_then_is, all_there_at, all_there_from, all_there_length, is_some_there, places_many, append_at_left, append_from, map_at, map_from, slice_get_there, is_some, all_rel, left_there, right_there}
+use Rattle.base_lists.proofs.Common.{◌≡◌, ◌∙◌, add-zero, ap, ap₂, sym, subst, refl, ℕ, zero, suc, ◌+◌, ◌<◌, ◌⊎◌, inl, inr, List, [], ◌∷◌, ◌++◌, map, length, Option, Some, None, Bool, true, false, cond, arith, option_and_then, slice_get, slice_index, length-append, length-map, slice_get_within}
+use Rattle.base_lists.proofs.Common.{same_Some, length-numbers, numbers_at, and_then_is, all_there_at, all_there_from, all_there_length, is_some_there, places_many, append_at_left, append_from, map_at, map_from, slice_get_there, is_some, all_rel, left_there, right_there}
 use Rattle.wasm_tree_spec.specs.Prelude.{Space, Functions, Tables, Memories, Globals, FuncType, ConstExpr, ElemSeg, GlobalDef, Module, imported_funcs, funcs_of}
 use Rattle.wasm_tree.specs.declared.module.ConstExpr.TheVariants as const
 use Rattle.wasm_tree.specs.declared.module.Func as tree
-use Rattle.wasm_meaning.specs.Prelude.{Code, Elem, Func, Global, Inst, RefVal, FuncRef, Store, Text, declared, Environment, ExternalValue, all_of, sites, World, alone, all_there, defined_count, imports_of, inst_of, imported_external_value, insts_from, instantiate, is_matched, joined_stores, links, numbers, own_count, own_store, part_store, seen_as, starts_of, stores_from}
+use Rattle.wasm_meaning.specs.Prelude.{Code, Elem, Func, Global, Inst, RefVal, FuncRef, Store, Text, declared, Environment, ExternalValue, all_of, sites, World, alone, all_there, defined_count, imports_of, inst_of, imported_external_value, insts_from, instantiate, is_matched, joined_stores, links}
+use Rattle.wasm_meaning.specs.Prelude.{numbers, own_count, own_store, part_store, seen_as, starts_of, stores_from}
 use Rattle.wasm_meaning.specs.World as world
 use Rattle.index_remap.specs.declared.remap.Remap.{Remap}
 use Rattle.index_remap.specs.Prelude.{declared_refs, Pairing, OptRel, none, some, ListRel, GlobalRel, ElemRel, KeyRel, BegunRel, new_const, new_elem, new_func, new_global, EntryByEntry}
@@ -119,7 +121,8 @@ module _ (laws : Laws) (namespace : ℕ → List ℕ) (names : SplitNames) (m : 
       second_there : (n : ℕ) (f : tree.Func) → slice_get primary.funcs n ≡ Some f → (x : Func) × (world.new_func j f ≡ Some x)
       second_there n f at = by (append_from (map stub (types_moved laws namespace names m moved owns g)) (entry_names.split laws namespace names m moved owns g).primary.funcs n f at)
         where
-          by : (slice_get (map stub (types_moved laws namespace names m moved owns g)) n ≡ Some f) ⊎ ((l : ℕ) × (n ≡ length (map stub (types_moved laws namespace names m moved owns g)) + l) × (slice_get (entry_names.split laws namespace names m moved owns g).primary.funcs l ≡ Some f)) → (x : Func) × (world.new_func j f ≡ Some x)
+          by : (slice_get (map stub (types_moved laws namespace names m moved owns g)) n ≡ Some f) ⊎ ((l : ℕ) × (n ≡ length (map stub (types_moved laws namespace names m moved owns g)) + l) × (slice_get (entry_names.split laws namespace names m moved owns g).primary.funcs l ≡ Some f)) →
+              (x : Func) × (world.new_func j f ≡ Some x)
           by (inl h) = stub_there n f h
           by (inr l) = left_there_too l.0 f (ap (λ fs. slice_get fs l.0) (sym (keeps laws namespace names m moved owns g).funcs) ∙ l.2)
 

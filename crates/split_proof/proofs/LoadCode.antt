@@ -1,10 +1,13 @@
 -- The code of functions that are loaded is related to theirs in the module alone.
-use Rattle.base_lists.proofs.Common.{◌≡◌, ◌∙◌, ap, ap₂, sym, subst, refl, ℕ, zero, suc, ◌+◌, ◌-◌, ◌<◌, ◌&&◌, ◌||◌, List, [], ◌∷◌, ◌++◌, length, not, Option, Some, None, Bool, true, false, nat_eq, arith, true≢false, ⊎_elim, slice_get, slice_index, unwrap_or, pos, nat_lt, list_any, ltb-true, slice_get_within, same_Some, left_true, right_true, length-numbers, each_same_self, numbers_index, append_at_left, append_right, Has, and_from, cases_Bool, either_true, left_either, right_either, any_from_place, among_there, there_among, place_is, no_place, none_among, the_one, not-true}
+use Rattle.base_lists.proofs.Common.{◌≡◌, ◌∙◌, ap, ap₂, sym, subst, refl, ℕ, zero, suc, ◌+◌, ◌-◌, ◌<◌, ◌&&◌, ◌||◌, List, [], ◌∷◌, ◌++◌, length, not, Option, Some, None, Bool, true, false, nat_eq, arith, true≢false, ⊎_elim, slice_get, slice_index, unwrap_or, pos, nat_lt, list_any, ltb-true}
+use Rattle.base_lists.proofs.Common.{slice_get_within, same_Some, left_true, right_true, length-numbers, each_same_self, numbers_index, append_at_left, append_right, Has, and_from, cases_Bool, either_true, left_either, right_either, any_from_place, among_there, there_among, place_is, no_place}
+use Rattle.base_lists.proofs.Common.{none_among, the_one, not-true}
 use Rattle.base_lists.specs.Members.{is_among}
 use Rattle.std.proofs.Common.{eq-eqb}
 use Rattle.base_lists.specs.Options.{◌>>=◌}
 use Rattle.base_lists.specs.Places.{numbers}
-use Rattle.wasm_tree_spec.specs.Prelude.{Operand, Space, Types, Functions, Tables, Memories, Globals, ElementSegments, DataSegments, Instr, Call, Module, ListLayers, all_operands_pass, any_operand_passes, same_space, same_type, same_func_type, imported_funcs, funcs_of, tables_of, memories_of, globals_of}
+use Rattle.wasm_tree_spec.specs.Prelude.{Operand, Space, Types, Functions, Tables, Memories, Globals, ElementSegments, DataSegments, Instr, Call, Module, ListLayers, all_operands_pass, any_operand_passes, same_space, same_type, same_func_type, imported_funcs, funcs_of, tables_of, memories_of}
+use Rattle.wasm_tree_spec.specs.Prelude.{globals_of}
 use Rattle.wasm_tree.specs.declared.instr.Instr.{out-Instr}
 use Rattle.wasm_tree.specs.declared.module.Func as tree
 use Rattle.wasm_tree.proofs.OperandLaws.{passes_both}

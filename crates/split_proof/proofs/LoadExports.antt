@@ -1,5 +1,6 @@
 -- What the primary module exports under the names by which a secondary module imports.
-use Rattle.base_lists.proofs.Common.{◌≡◌, ◌∙◌, ap, sym, subst, refl, ℕ, zero, suc, ◌+◌, ◌-◌, ◌<◌, List, [], ◌∷◌, ◌++◌, map, take, length, Option, Some, Bool, true, false, cond, slice_get, slice_index, arith, list_any, filter_map-append, list_any-append, slice_get_within, same_Some, place_there, numbers_at, map_at, Has, has_left, has_right, left_either, right_either, there_contains}
+use Rattle.base_lists.proofs.Common.{◌≡◌, ◌∙◌, ap, sym, subst, refl, ℕ, zero, suc, ◌+◌, ◌-◌, ◌<◌, List, [], ◌∷◌, ◌++◌, map, take, length, Option, Some, Bool, true, false, cond, slice_get, slice_index, arith, list_any, filter_map-append, list_any-append, slice_get_within, same_Some, place_there}
+use Rattle.base_lists.proofs.Common.{numbers_at, map_at, Has, has_left, has_right, left_either, right_either, there_contains}
 use Rattle.base_lists.proofs.Same.{text_is, text_self}
 use Rattle.base_lists.specs.Places.{numbers}
 use Rattle.wasm_tree_spec.specs.Prelude.{Space, Functions, Tables, Memories, Globals, Export, Func, ExportDesc, Module, any_operand_passes, imported_funcs}

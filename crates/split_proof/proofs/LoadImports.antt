@@ -1,5 +1,6 @@
 -- Each import of a secondary module is there and matches, in each store in which the primary module's instance is typed.
-use Rattle.base_lists.proofs.Common.{◌≡◌, ◌∙◌, ap, ap₂, sym, subst, refl, ℕ, zero, suc, List, [], ◌∷◌, ◌++◌, map, length, Option, Some, true, false, ⊎_elim, slice_get, slice_index, unwrap_or, arith, option_map, and_from, slice_get_within, same_Some, chosen_from, numbers_index, option_map_is, append_at_left, append_from, map_from, push_last, Has}
+use Rattle.base_lists.proofs.Common.{◌≡◌, ◌∙◌, ap, ap₂, sym, subst, refl, ℕ, zero, suc, List, [], ◌∷◌, ◌++◌, map, length, Option, Some, true, false, ⊎_elim, slice_get, slice_index, unwrap_or, arith, option_map, and_from, slice_get_within, same_Some, chosen_from, numbers_index, option_map_is}
+use Rattle.base_lists.proofs.Common.{append_at_left, append_from, map_from, push_last, Has}
 use Rattle.base_lists.specs.Options.{◌>>=◌, all_there}
 use Rattle.wasm_tree_spec.specs.Prelude.{Space, Functions, Tables, Memories, Globals, Limits, TableType, GlobalType, Import, ImportDesc, Module, same_func_type, imported_tables, imported_memories, imported_globals, funcs_of, tables_of, memories_of, globals_of}
 use Rattle.wasm_tree.specs.declared.module.ImportDesc.TheVariants as im

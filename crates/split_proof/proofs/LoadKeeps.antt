@@ -1,5 +1,6 @@
 -- Where a secondary module is loaded stores stay related, and its functions are related to those that moved.
-use Rattle.base_lists.proofs.Common.{◌≡◌, ◌∙◌, ap, sym, subst, refl, ℕ, ◌+◌, ◌-◌, List, [], ◌∷◌, ◌++◌, length, Option, Some, None, Bool, true, false, ◌&&◌, nat_eq, arith, slice_get, slice_index, option_and_then, IsTrue, list_any, eqb-true, ltb-true, list_any-append, same_Some, left_true, right_true, numbers_index, and_then_is, append_at_left, append_right, slice_get_there, has_right, left_either}
+use Rattle.base_lists.proofs.Common.{◌≡◌, ◌∙◌, ap, sym, subst, refl, ℕ, ◌+◌, ◌-◌, List, [], ◌∷◌, ◌++◌, length, Option, Some, None, Bool, true, false, ◌&&◌, nat_eq, arith, slice_get, slice_index, option_and_then, IsTrue, list_any, eqb-true, ltb-true, list_any-append, same_Some, left_true, right_true}
+use Rattle.base_lists.proofs.Common.{numbers_index, and_then_is, append_at_left, append_right, slice_get_there, has_right, left_either}
 use Rattle.std.specs.Prelude.{unwrap_or}
 use Rattle.base_lists.specs.Options.{◌>>=◌}
 use Rattle.wasm_tree_spec.specs.Prelude.{Tables, FuncType, Call, I32Const, CallIndirect, Module, imported_funcs}

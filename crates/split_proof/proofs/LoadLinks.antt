@@ -1,5 +1,6 @@
 -- A secondary module links and traps nowhere, in each store in which the primary module's instance is typed, and what it leaves.
-use Rattle.base_lists.proofs.Common.{◌≡◌, ◌∙◌, ap, sym, refl, ℕ, zero, suc, ◌+◌, ◌^◌, ◌<◌, ◌≤◌, List, [], ◌∷◌, ◌++◌, map, length, Option, Some, None, Bool, true, false, cond, nat_eq, slice_get, slice_index, arith, pos, nat_le, nat_lt, eqb-true, and_parts, leb-true, ltb-true, length-append, length-map, slice_get_within, same_Some, length-numbers, numbers_index, and_then_is, all_there_from, append_at_left, append_right, map_at, slice_get_there, overwrite_fits}
+use Rattle.base_lists.proofs.Common.{◌≡◌, ◌∙◌, ap, sym, refl, ℕ, zero, suc, ◌+◌, ◌^◌, ◌<◌, ◌≤◌, List, [], ◌∷◌, ◌++◌, map, length, Option, Some, None, Bool, true, false, cond, nat_eq, slice_get, slice_index, arith, pos, nat_le, nat_lt, eqb-true, and_parts, leb-true, ltb-true, length-append}
+use Rattle.base_lists.proofs.Common.{length-map, slice_get_within, same_Some, length-numbers, numbers_index, and_then_is, all_there_from, append_at_left, append_right, map_at, slice_get_there, overwrite_fits}
 use Rattle.std.proofs.Common.{eq-eqb}
 use Rattle.base_lists.specs.Options.{◌>>=◌, all_there}
 use Rattle.base_lists.specs.Places.{numbers}
@@ -10,7 +11,8 @@ use Rattle.wasm_tree.specs.declared.module.ElemMode.TheVariants as elem
 use Rattle.wasm_tree.specs.declared.module.ImportDesc.TheVariants as im
 use Rattle.wasm_valid_bodies.specs.Typing.{only}
 use Rattle.wasm_valid.specs.declared.kinds.ItemKind.TheVariants as kind
-use Rattle.wasm_meaning.specs.Prelude.{overwrite, RefVal, FuncRef, Val, Inst, Func, Code, Table, Memory, Global, Elem, Store, SetTable, DropElem, declared, ref_of, num_of, changed, ExternalValue, TableAt, Filled, PlacedSegment, new_elem, global_with, elem_with, store_with, const_value, joined_stores, is_match, meets, meets_most, segments_in, run_elem_with, run_data_with, one_by_one, and_then, Added, added, all_match, own_segments}
+use Rattle.wasm_meaning.specs.Prelude.{overwrite, RefVal, FuncRef, Val, Inst, Func, Code, Table, Memory, Global, Elem, Store, SetTable, DropElem, declared, ref_of, num_of, changed, ExternalValue, TableAt, Filled, PlacedSegment, new_elem, global_with, elem_with, store_with, const_value}
+use Rattle.wasm_meaning.specs.Prelude.{joined_stores, is_match, meets, meets_most, segments_in, run_elem_with, run_data_with, one_by_one, and_then, Added, added, all_match, own_segments}
 use Rattle.wasm_meaning.specs.World as world
 use Rattle.index_remap.specs.declared.remap.Remap.{Remap}
 use Rattle.index_remap.specs.Prelude.{declared_refs, declaring, new_const, new_func}
@@ -83,7 +85,8 @@ is_table s m t a h =
 
 -- ---- the module ----
 
-module _ (namespace : ℕ → List ℕ) (names : SplitNames) (m : Module) (holds : ItemsHold m) (moved : List ℕ) (can : CanMove m moved) (primary_holds : ItemsHold (primary_with namespace names.export_prefix m moved)) (own : List ℕ) (before : ℕ) (slots : HasSlots moved own before) (i : Inst) (s : Store) (typed : IsTyped (first namespace names m holds moved can primary_holds own before slots) i s)
+module _ (namespace : ℕ → List ℕ) (names : SplitNames) (m : Module) (holds : ItemsHold m) (moved : List ℕ) (can : CanMove m moved) (primary_holds : ItemsHold (primary_with namespace names.export_prefix m moved)) (own : List ℕ) (before : ℕ) (slots : HasSlots moved own before) (i : Inst) (s : Store)
+    (typed : IsTyped (first namespace names m holds moved can primary_holds own before slots) i s)
     (holds_too : ItemsHold (secondary_with names m moved own before)) (few : length moved < 2 ^ 32) (leave : AddedModulesLeave) where
   abbrev second : Module
   second = loads namespace names m holds moved can primary_holds own before slots i s typed
@@ -179,7 +182,8 @@ module _ (namespace : ℕ → List ℕ) (names : SplitNames) (m : Module) (holds
   slots_are =
       let o = slots_offered namespace names m holds moved can primary_holds own before slots i s typed in
       let a = and_then_is (slice_get i.tables (slice_index (primary_map m moved).tables (slot_table m))) _ o.0 o.1 in
-      let t = is_table s (first namespace names m holds moved can primary_holds own before slots) (slot_table_type (length moved)) a.0 (ap (λ x. is_match s (first namespace names m holds moved can primary_holds own before slots) (im.Table (slot_table_type (length moved))) x) (same_Some _ _ a.2) ∙ o.2) in
+      let t = is_table s (first namespace names m holds moved can primary_holds own before slots) (slot_table_type (length moved)) a.0
+      (ap (λ x. is_match s (first namespace names m holds moved can primary_holds own before slots) (im.Table (slot_table_type (length moved))) x) (same_Some _ _ a.2) ∙ o.2) in
       let entry : slice_index (primary_map m moved).tables (slot_table m) ≡ slot_table m = numbers_index (suc (slot_table m)) (slot_table m) (omega arith) in
       let room = leb-true (length moved) (length t.0.slots) ((and_parts (nat_le (length moved) (length t.0.slots)) (meets_most t.0.most (Some (length moved))) t.2).0) in
       (a.0, t.0, sym (ap (slice_get i.tables) entry) ∙ a.1, t.1, room)

@@ -1,5 +1,6 @@
 -- The indices of a secondary module's instance name what the primary module's instance has, and its own functions.
-use Rattle.base_lists.proofs.Common.{◌≡◌, ◌∙◌, ap, ap₂, sym, refl, ℕ, zero, suc, ◌+◌, ◌<◌, List, [], ◌∷◌, ◌++◌, map, length, Option, Some, None, Bool, true, false, slice_get, slice_index, arith, option_map, cons_option, length-append, length-map, filter_map-append, same_Some, every_at, length-numbers, numbers_at, numbers_index, and_then_is, append_at_left, append_right, slice_get_there, all_counted, index_left, index_right}
+use Rattle.base_lists.proofs.Common.{◌≡◌, ◌∙◌, ap, ap₂, sym, refl, ℕ, zero, suc, ◌+◌, ◌<◌, List, [], ◌∷◌, ◌++◌, map, length, Option, Some, None, Bool, true, false, slice_get, slice_index, arith, option_map, cons_option, length-append, length-map, filter_map-append, same_Some, every_at}
+use Rattle.base_lists.proofs.Common.{length-numbers, numbers_at, numbers_index, and_then_is, append_at_left, append_right, slice_get_there, all_counted, index_left, index_right}
 use Rattle.base_lists.proofs.Filtered.{all_chosen}
 use Rattle.base_kept.proofs.Chosen.{kept_counted}
 use Rattle.base_lists.proofs.Every.{every_from}
@@ -71,7 +72,8 @@ of_another : (k : Space) (thing : ℕ → ExternalValue) → ((a : ℕ) → addr
 of_another k thing h None = refl
 of_another k thing h (Some a) = h a
 
-module _ (namespace : ℕ → List ℕ) (names : SplitNames) (m : Module) (holds : ItemsHold m) (moved : List ℕ) (can : CanMove m moved) (primary_holds : ItemsHold (primary_with namespace names.export_prefix m moved)) (own : List ℕ) (before : ℕ) (slots : HasSlots moved own before) (i : Inst) (s : Store) (typed : IsTyped (first namespace names m holds moved can primary_holds own before slots) i s) where
+module _ (namespace : ℕ → List ℕ) (names : SplitNames) (m : Module) (holds : ItemsHold m) (moved : List ℕ) (can : CanMove m moved) (primary_holds : ItemsHold (primary_with namespace names.export_prefix m moved)) (own : List ℕ) (before : ℕ) (slots : HasSlots moved own before) (i : Inst) (s : Store)
+    (typed : IsTyped (first namespace names m holds moved can primary_holds own before slots) i s) where
   abbrev pub loads : Module
   loads = second namespace names m holds moved can primary_holds own before slots i s typed
 
@@ -288,7 +290,8 @@ module _ (namespace : ℕ → List ℕ) (names : SplitNames) (m : Module) (holds
             let last : n ≡ length (filter_map table_there (shared Tables)) + 0 = omega (arith, count) in
             let t = slots_there in
             let at : slice_get (addresses_of Tables things) n ≡ Some t.0 =
-            ap (slice_get (addresses_of Tables things)) last ∙ ap (λ l. slice_get l (length (filter_map table_there (shared Tables)) + 0)) table_addresses ∙ append_right (filter_map table_there (shared Tables)) (cons_option (table_there (slot_table m)) []) 0 ∙ ap (λ o. slice_get (cons_option o []) 0) t.1 in
+            ap (slice_get (addresses_of Tables things)) last ∙ ap (λ l. slice_get l (length (filter_map table_there (shared Tables)) + 0)) table_addresses ∙ append_right (filter_map table_there (shared Tables)) (cons_option (table_there (slot_table m)) []) 0 ∙
+            ap (λ o. slice_get (cons_option o []) 0) t.1 in
             ap (slice_get j.tables) entry ∙ append_at_left (addresses_of Tables things) _ n t.0 at ∙ sym t.1 ∙ ap (slice_get i.tables) (numbers_index (suc (length (tables_of m))) (slot_table m) (omega arith))
 
     -- ---- its own functions ----

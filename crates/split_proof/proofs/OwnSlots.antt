@@ -1,5 +1,6 @@
 -- The slots of one secondary module, and what references over them leave of a table.
-use Rattle.base_lists.proofs.Common.{◌≡◌, ◌∙◌, ap, sym, subst, refl, ℕ, zero, suc, ◌+◌, ◌-◌, ◌<◌, ◌≤◌, ◌⊎◌, inl, inr, List, [], ◌∷◌, ◌++◌, length, Some, false, cond, arith, append_assoc, slice_get, nat_lt, ⊎_elim, flat_map, lt-ltb, ltb-true, nat_tests, length-append, same_Some, cond_is, and_then_is, append_left, append_right}
+use Rattle.base_lists.proofs.Common.{◌≡◌, ◌∙◌, ap, sym, subst, refl, ℕ, zero, suc, ◌+◌, ◌-◌, ◌<◌, ◌≤◌, ◌⊎◌, inl, inr, List, [], ◌∷◌, ◌++◌, length, Some, false, cond, arith, append_assoc, slice_get, nat_lt, ⊎_elim, flat_map, lt-ltb, ltb-true, nat_tests, length-append, same_Some, cond_is, and_then_is}
+use Rattle.base_lists.proofs.Common.{append_left, append_right}
 use Rattle.base_lists.specs.Options.{◌>>=◌}
 use Rattle.wasm_tree_spec.specs.Prelude.{Module}
 use Rattle.wasm_meaning.specs.Prelude.{overwrite, split_at, Secondary, secondary_of}

@@ -1,6 +1,7 @@
 -- Code in which other code stands in place of calls passes a test of operands where the code and what stands in it do.
 use Rattle.base_lists.proofs.Common.{◌≡◌, ◌∙◌, ap, sym, refl, ℕ, List, [], ◌∷◌, Bool, true, not, list_all, list_all-append, ◌&&◌, left_true, right_true, and_from}
-use Rattle.wasm_tree_spec.specs.Prelude.{Operand, BlockType, Instr, fold_out-Instr, Row_of-Instr, items-the_row-Instr, end_of-Instr, more_of-Instr, Block, Block', Loop, Loop', If, If', Call, all_operands_pass, block_operands, called, held, operands, operands_of, operands_pass, outs-Block, outs-Loop, outs-If, PassesInside}
+use Rattle.wasm_tree_spec.specs.Prelude.{Operand, BlockType, Instr, fold_out-Instr, Row_of-Instr, items-the_row-Instr, end_of-Instr, more_of-Instr, Block, Block', Loop, Loop', If, If', Call, all_operands_pass, block_operands, called, held, operands, operands_of, operands_pass, outs-Block, outs-Loop}
+use Rattle.wasm_tree_spec.specs.Prelude.{outs-If, PassesInside}
 use Rattle.wasm_tree.specs.declared.types.BlockType.TheVariants as block
 use Rattle.wasm_tree.specs.declared.instr.Instr.{out-Instr}
 use Rattle.wasm_tree.specs.declared.instr.Instr.TheOpen.{Instr-F}
@@ -36,19 +37,24 @@ module _ (inside : PassesInside) (old new : Operand → Bool) (code : ℕ → Li
     instr_passes (Block' ty n row) h =
         let is = items-the_row-Instr _ row in
         let s = sym (layer_passes old (Block' ty n row) (Instr-F.Block ty is) (block_layer ty n row)) ∙ h in
-        let t = layer_passes new (Block ty (with_calls code is)) (Instr-F.Block ty (with_calls code is)) (outs-Block ty (with_calls code is)) ∙ and_from (list_all new (block_operands ty)) (all_operands_pass new (with_calls code is)) (type_passes ty (left_true (list_all old (block_operands ty)) (all_operands_pass old is) s)) (row_passes row (right_true (list_all old (block_operands ty)) (all_operands_pass old is) s)) in
+        let t = layer_passes new (Block ty (with_calls code is)) (Instr-F.Block ty (with_calls code is)) (outs-Block ty (with_calls code is)) ∙
+        and_from (list_all new (block_operands ty)) (all_operands_pass new (with_calls code is)) (type_passes ty (left_true (list_all old (block_operands ty)) (all_operands_pass old is) s)) (row_passes row (right_true (list_all old (block_operands ty)) (all_operands_pass old is) s)) in
         ap (all_operands_pass new) (block_calls code ty n row) ∙ and_from (operands_pass new (Block ty (with_calls code is))) true t refl
     instr_passes (Loop' ty n row) h =
         let is = items-the_row-Instr _ row in
         let s = sym (layer_passes old (Loop' ty n row) (Instr-F.Loop ty is) (loop_layer ty n row)) ∙ h in
-        let t = layer_passes new (Loop ty (with_calls code is)) (Instr-F.Loop ty (with_calls code is)) (outs-Loop ty (with_calls code is)) ∙ and_from (list_all new (block_operands ty)) (all_operands_pass new (with_calls code is)) (type_passes ty (left_true (list_all old (block_operands ty)) (all_operands_pass old is) s)) (row_passes row (right_true (list_all old (block_operands ty)) (all_operands_pass old is) s)) in
+        let t = layer_passes new (Loop ty (with_calls code is)) (Instr-F.Loop ty (with_calls code is)) (outs-Loop ty (with_calls code is)) ∙
+        and_from (list_all new (block_operands ty)) (all_operands_pass new (with_calls code is)) (type_passes ty (left_true (list_all old (block_operands ty)) (all_operands_pass old is) s)) (row_passes row (right_true (list_all old (block_operands ty)) (all_operands_pass old is) s)) in
         ap (all_operands_pass new) (loop_calls code ty n row) ∙ and_from (operands_pass new (Loop ty (with_calls code is))) true t refl
     instr_passes (If' ty n row k other) h =
         let is = items-the_row-Instr _ row in
         let os = items-the_row-Instr _ other in
         let s = sym (layer_passes old (If' ty n row k other) (Instr-F.If ty is os) (if_layer ty n row k other) ∙ ap (λ b. list_all old (block_operands ty) && b) (list_all-append (operands_pass old) is os)) ∙ h in
         let r = right_true (list_all old (block_operands ty)) _ s in
-        let t = layer_passes new (If ty (with_calls code is) (with_calls code os)) (Instr-F.If ty (with_calls code is) (with_calls code os)) (outs-If ty (with_calls code is) (with_calls code os)) ∙ ap (λ b. list_all new (block_operands ty) && b) (list_all-append (operands_pass new) (with_calls code is) (with_calls code os)) ∙ and_from (list_all new (block_operands ty)) _ (type_passes ty (left_true (list_all old (block_operands ty)) _ s)) (and_from (all_operands_pass new (with_calls code is)) (all_operands_pass new (with_calls code os)) (row_passes row (left_true (all_operands_pass old is) (all_operands_pass old os) r)) (row_passes other (right_true (all_operands_pass old is) (all_operands_pass old os) r))) in
+        let t = layer_passes new (If ty (with_calls code is) (with_calls code os)) (Instr-F.If ty (with_calls code is) (with_calls code os)) (outs-If ty (with_calls code is) (with_calls code os)) ∙
+        ap (λ b. list_all new (block_operands ty) && b) (list_all-append (operands_pass new) (with_calls code is) (with_calls code os)) ∙
+        and_from (list_all new (block_operands ty)) _ (type_passes ty (left_true (list_all old (block_operands ty)) _ s))
+        (and_from (all_operands_pass new (with_calls code is)) (all_operands_pass new (with_calls code os)) (row_passes row (left_true (all_operands_pass old is) (all_operands_pass old os) r)) (row_passes other (right_true (all_operands_pass old is) (all_operands_pass old os) r))) in
         ap (all_operands_pass new) (if_calls code ty n row k other) ∙ and_from (operands_pass new (If ty (with_calls code is) (with_calls code os))) true t refl
     instr_passes (Call f) h =
         ap (all_operands_pass new) (fold_out-Instr (List Instr) (calls_step code) (Call f))

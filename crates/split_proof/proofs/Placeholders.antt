@@ -1,5 +1,6 @@
 -- The primary module of a split imports its placeholders behind all that the module imports, in the order of their slots.
-use Rattle.base_lists.proofs.Common.{◌≡◌, ◌≢◌, ◌∙◌, ap, sym, subst, refl, ℕ, zero, suc, ◌+◌, ◌^◌, ◌<◌, ◌≤◌, List, [], ◌∷◌, ◌++◌, length, map, Some, None, Bool, true, false, cond, nat_eq, arith, true≢false, ⊎_elim, slice_get, slice_index, unwrap_or, option_and_then, decimal, pos, flat_map, bytes_eq, decimal_injective, slice_get_within, bytes_eq-Decides, cond_is, left_true, right_true, length-numbers, numbers_at, pigeons, slice_get_there, slice_index_is, and_from, cases_Bool, same_number}
+use Rattle.base_lists.proofs.Common.{◌≡◌, ◌≢◌, ◌∙◌, ap, sym, subst, refl, ℕ, zero, suc, ◌+◌, ◌^◌, ◌<◌, ◌≤◌, List, [], ◌∷◌, ◌++◌, length, map, Some, None, Bool, true, false, cond, nat_eq, arith, true≢false, ⊎_elim, slice_get, slice_index, unwrap_or, option_and_then, decimal, pos, flat_map, bytes_eq}
+use Rattle.base_lists.proofs.Common.{decimal_injective, slice_get_within, bytes_eq-Decides, cond_is, left_true, right_true, length-numbers, numbers_at, pigeons, slice_get_there, slice_index_is, and_from, cases_Bool, same_number}
 use Rattle.base_lists.proofs.Same.{text_is, text_self}
 use Rattle.base_lists.proofs.Every.{every_from}
 use Rattle.std.proofs.Common.{eq-eqb}

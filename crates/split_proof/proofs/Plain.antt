@@ -2,7 +2,10 @@
 use Rattle.base_lists.proofs.Common.{◌≡◌, refl, ap, ◌∙◌, ℕ, List, [], ◌∷◌, Option, Some, None, Bool, true, false, cond, nat_eq, slice_get, then_all, any_there}
 use Rattle.base_lists.specs.Options.{◌>>=◌}
 use Rattle.wasm_tree_spec.specs.Prelude.{FuncType}
-use Rattle.wasm_meaning.specs.Prelude.{Outcome, overwrite, Gives, Traps, IllTyped, bind, or_ill_typed, Act, Calls, Goes, AsksGrow, Ends, Code, Entry, Ended, Frame, Func, Growing, GrowMemory, GrowTable, Growth, Level, Mark, Next, Opening, Own, Placeholder, Running, Store, Val, Waiting, pop_typed, with_values, type_at, act, enter, enter_at, frame_of, give, give_levels, perform, step, FuncAt, GlobalAt, MemoryAt, Shown, TableAt, ExternalValue, func_of, received, received_all, received_ref, memory_may_grow, table_may_grow, Closed, Fresh, Move, Opened, Pending, Phase, Run, Steps, Makes, Transition, Answer, Call, Deny, Extend, Get, Grant, Invoke, Refuse, Set, Size, Take, answered, at_entries, byte_of, called, closed_move, decided, delivered, extended, got, granted, in_phase, is_mark, is_taken_closed, moved, nothing_in, next_move, open_next, or_bad, or_closed, place_at, refused, set, size_of, started, transition, transition_at, viewed_at}
+use Rattle.wasm_meaning.specs.Prelude.{Outcome, overwrite, Gives, Traps, IllTyped, bind, or_ill_typed, Act, Calls, Goes, AsksGrow, Ends, Code, Entry, Ended, Frame, Func, Growing, GrowMemory, GrowTable, Growth, Level, Mark, Next, Opening, Own, Placeholder, Running, Store, Val, Waiting, pop_typed}
+use Rattle.wasm_meaning.specs.Prelude.{with_values, type_at, act, enter, enter_at, frame_of, give, give_levels, perform, step, FuncAt, GlobalAt, MemoryAt, Shown, TableAt, ExternalValue, func_of, received, received_all, received_ref, memory_may_grow, table_may_grow, Closed, Fresh, Move, Opened}
+use Rattle.wasm_meaning.specs.Prelude.{Pending, Phase, Run, Steps, Makes, Transition, Answer, Call, Deny, Extend, Get, Grant, Invoke, Refuse, Set, Size, Take, answered, at_entries, byte_of, called, closed_move, decided, delivered, extended, got, granted, in_phase, is_mark, is_taken_closed, moved}
+use Rattle.wasm_meaning.specs.Prelude.{nothing_in, next_move, open_next, or_bad, or_closed, place_at, refused, set, size_of, started, transition, transition_at, viewed_at}
 use Rattle.index_remap.specs.Prelude.{calls_placeholder}
 use Rattle.base_lists.specs.Related.{IfThere, absent, present}
 

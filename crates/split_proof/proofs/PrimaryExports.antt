@@ -1,5 +1,6 @@
 -- Each export of the primary module holds: it is in its space, and none before it has its name.
-use Rattle.base_lists.proofs.Common.{◌≡◌, ◌∙◌, ap, ap₂, sym, subst, refl, ℕ, zero, suc, ◌+◌, ◌^◌, ◌<◌, ◌≤◌, List, [], ◌∷◌, ◌++◌, map, take, length, Bool, true, false, Some, None, ⊎_elim, slice_get, slice_index, arith, true≢false, Contains, list_any, bytes_eq, length-map, length-append, map-append, take-map, slice_get_within, bytes_eq-Decides, cond_is, has_chosen, length-numbers, numbers_index, append_from, map_at, map_from, map_twice, slice_get_there, any_from_place, there_contains, among_right, there_among}
+use Rattle.base_lists.proofs.Common.{◌≡◌, ◌∙◌, ap, ap₂, sym, subst, refl, ℕ, zero, suc, ◌+◌, ◌^◌, ◌<◌, ◌≤◌, List, [], ◌∷◌, ◌++◌, map, take, length, Bool, true, false, Some, None, ⊎_elim, slice_get, slice_index, arith, true≢false, Contains, list_any, bytes_eq, length-map, length-append, map-append}
+use Rattle.base_lists.proofs.Common.{take-map, slice_get_within, bytes_eq-Decides, cond_is, has_chosen, length-numbers, numbers_index, append_from, map_at, map_from, map_twice, slice_get_there, any_from_place, there_contains, among_right, there_among}
 use Rattle.base_lists.proofs.Each.{contains_there}
 use Rattle.base_lists.specs.Members.{is_among}
 use Rattle.base_lists.specs.Places.{numbers}

@@ -1,5 +1,6 @@
 -- The map of the primary module has an entry for each index that is named in its tree.
-use Rattle.base_lists.proofs.Common.{◌≡◌, ◌∙◌, ap, sym, refl, ℕ, suc, ◌+◌, ◌<◌, List, [], ◌∷◌, ◌++◌, drop, map, length, true, Option, Some, None, slice_get, arith, IsTrue, pos, list_all, length-append, length-drop, length-map, list_all-append, slice_get_within, left_true, right_true, list_all_from, length-numbers, map_from, and_from}
+use Rattle.base_lists.proofs.Common.{◌≡◌, ◌∙◌, ap, sym, refl, ℕ, suc, ◌+◌, ◌<◌, List, [], ◌∷◌, ◌++◌, drop, map, length, true, Option, Some, None, slice_get, arith, IsTrue, pos, list_all, length-append, length-drop, length-map, list_all-append, slice_get_within, left_true, right_true, list_all_from}
+use Rattle.base_lists.proofs.Common.{length-numbers, map_from, and_from}
 use Rattle.base_lists.specs.Places.{numbers}
 use Rattle.base_kept.specs.Kept.{kept_before, new_places}
 use Rattle.base_kept.proofs.Laws.{kept_from}
@@ -10,7 +11,8 @@ use Rattle.wasm_valid.specs.Prelude.{IsValid, ItemsHold}
 use Rattle.index_remap.specs.declared.remap.Remap.{Remap}
 use Rattle.index_remap.specs.Prelude.{entries, fits_data, fits_elem, fits_export, fits_export_desc, fits_func, fits_global, fits_import, fits_start, fits_tree, has, has_entry}
 use Rattle.index_remap_proof.specs.Trees.{Covers}
-use Rattle.split_spec.specs.Prelude.{with_calls, call_by_slot, call_through_slot, in_slots, params_of, place_among, slot_segment, slot_table, trampoline_body, type_index, entities, exports_for_secondary, from_primary, name_from_primary, slots_name, added_exports, left_marks, placeholder_imports, primary_func, primary_funcs, primary_tree}
+use Rattle.split_spec.specs.Prelude.{with_calls, call_by_slot, call_through_slot, in_slots, params_of, place_among, slot_segment, slot_table, trampoline_body, type_index, entities, exports_for_secondary, from_primary, name_from_primary, slots_name, added_exports, left_marks, placeholder_imports}
+use Rattle.split_spec.specs.Prelude.{primary_func, primary_funcs, primary_tree}
 use Rattle.split_proof.specs.Premises.{CanMove}
 use Rattle.split_proof.proofs.Fits.{EntriesAreThere, body_exact, call_passes, called_below, exact, desc_fits, has_below, longer, slots_fit, through_slot_passes, trampoline_passes, type_below}
 use Rattle.split_proof.proofs.PassedCalls.{calls_pass}

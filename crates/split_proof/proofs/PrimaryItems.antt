@@ -1,12 +1,14 @@
 -- Each item of the primary module but its exports holds, but for references.
-use Rattle.base_lists.proofs.Common.{◌≡◌, ◌∙◌, ap, ap₂, sym, subst, refl, ℕ, ◌+◌, ◌<◌, List, [], ◌∷◌, ◌++◌, drop, map, length, Option, Some, None, Bool, true, false, ◌&&◌, not, ⊎_elim, option_and_then, slice_get, slice_index, arith, true≢false, nat_lt, pos, cons_option, option_map_or, lt-ltb, ltb-true, slice_get_within, has_chosen, numbers_index, and_then_is, append_at_left, append_right, map_at, map_from, slice_get_there, left_either, right_either, among_left, among_right, among_joined, there_among, no_place, none_among, only_rest, only_true}
+use Rattle.base_lists.proofs.Common.{◌≡◌, ◌∙◌, ap, ap₂, sym, subst, refl, ℕ, ◌+◌, ◌<◌, List, [], ◌∷◌, ◌++◌, drop, map, length, Option, Some, None, Bool, true, false, ◌&&◌, not, ⊎_elim, option_and_then, slice_get, slice_index, arith, true≢false, nat_lt, pos, cons_option, option_map_or, lt-ltb}
+use Rattle.base_lists.proofs.Common.{ltb-true, slice_get_within, has_chosen, numbers_index, and_then_is, append_at_left, append_right, map_at, map_from, slice_get_there, left_either, right_either, among_left, among_right, among_joined, there_among, no_place, none_among, only_rest, only_true}
 use Rattle.base_lists.specs.Members.{is_among}
 use Rattle.std.proofs.Common.{filter_map}
 use Rattle.base_lists.proofs.Places.{push_from}
 use Rattle.base_kept.specs.Kept.{kept}
 use Rattle.base_kept.proofs.Laws.{kept_from}
 use Rattle.base_kept.proofs.Marks.{marked_is_among}
-use Rattle.wasm_tree_spec.specs.Prelude.{Operand, Space, Types, Functions, Tables, Memories, Globals, ElementSegments, DataSegments, RefType, ValType, I32, Ref, FuncType, TableType, Call, ConstExpr, DataMode, DataSeg, ElemMode, ElemSeg, Func, GlobalDef, ImportDesc, Module, imported_funcs, imported_globals, funcs_of, globals_of, type_of_func}
+use Rattle.wasm_tree_spec.specs.Prelude.{Operand, Space, Types, Functions, Tables, Memories, Globals, ElementSegments, DataSegments, RefType, ValType, I32, Ref, FuncType, TableType, Call, ConstExpr, DataMode, DataSeg, ElemMode, ElemSeg, Func, GlobalDef, ImportDesc, Module, imported_funcs}
+use Rattle.wasm_tree_spec.specs.Prelude.{imported_globals, funcs_of, globals_of, type_of_func}
 use Rattle.wasm_tree.specs.declared.types.RefType.TheVariants.{Func as func_ref}
 use Rattle.wasm_tree.specs.declared.module.ConstExpr.TheVariants as const
 use Rattle.wasm_tree.specs.declared.module.DataMode.TheVariants as «data»
@@ -168,7 +170,8 @@ module _ (laws : BodyLaws) (namespace : ℕ → List ℕ) (prefix : List ℕ) (m
       let has : type_of_func m i ≡ Some t = ap (option_and_then (slice_get m.types)) ty ∙ is in
       let params : params_of m i ≡ t.params = ap (λ (o : Option FuncType). option_map_or (λ t. t.params) o []) has in
       let slots = spaces.slot_table_at namespace prefix m holds moved can in
-      let body : renumbered_all map_of (trampoline_body m i slot) ≡ _ = trampoline_renumbered map_of (params_of m i) (type_index m i) (slot_table m) (pos slot) ∙ ap (λ ts. gets 0 ts ++ slot_call (slice_index map_of.types (type_index m i)) (slice_index map_of.tables (slot_table m)) (pos slot)) params in
+      let body : renumbered_all map_of (trampoline_body m i slot) ≡ _ = trampoline_renumbered map_of (params_of m i) (type_index m i) (slot_table m) (pos slot) ∙
+      ap (λ ts. gets 0 ts ++ slot_call (slice_index map_of.types (type_index m i)) (slice_index map_of.tables (slot_table m)) (pos slot)) params in
       subst (λ is. WellTyped d is [] t.results) (sym body)
       (trampoline_typed d (slice_index map_of.types (type_index m i)) (slice_index map_of.tables (slot_table m)) (pos slot) t (type_new map_of m new i f.ty slot t refl refl slots ty is d refl) (slots_new map_of m new i f.ty slot t refl refl slots ty is d refl)
       (λ n v h. append_at_left t.params [] n v h))

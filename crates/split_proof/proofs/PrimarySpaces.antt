@@ -1,5 +1,7 @@
 -- The index spaces of the primary module: what the module imports, the placeholders, and what is left of what it defines; and where each index goes.
-use Rattle.base_lists.proofs.Common.{◌≡◌, ◌∙◌, ap, ap₂, sym, subst, refl, ℕ, zero, suc, ◌+◌, ◌<◌, ◌≤◌, List, [], ◌∷◌, ◌++◌, drop, map, length, Option, Some, None, Bool, true, false, not, ⊎_elim, option_and_then, slice_get, slice_index, arith, append_assoc, decimal, nat_le, nat_lt, cons_option, leb-true, length-append, length-drop, length-map, filter_map-append, get_or_from_slice_get, slice_get_within, left_true, every_at, length-numbers, numbers_at, numbers_index, and_then_is, append_at_left, append_from, append_right, drop_at, map_at, map_from, map_twice, push_last, slice_get_there, slice_index_is, cases_Bool, left_either, map_stays, index_left, index_right, among_there}
+use Rattle.base_lists.proofs.Common.{◌≡◌, ◌∙◌, ap, ap₂, sym, subst, refl, ℕ, zero, suc, ◌+◌, ◌<◌, ◌≤◌, List, [], ◌∷◌, ◌++◌, drop, map, length, Option, Some, None, Bool, true, false, not, ⊎_elim, option_and_then, slice_get, slice_index, arith, append_assoc, decimal, nat_le, nat_lt, cons_option}
+use Rattle.base_lists.proofs.Common.{leb-true, length-append, length-drop, length-map, filter_map-append, get_or_from_slice_get, slice_get_within, left_true, every_at, length-numbers, numbers_at, numbers_index, and_then_is, append_at_left, append_from, append_right, drop_at, map_at, map_from}
+use Rattle.base_lists.proofs.Common.{map_twice, push_last, slice_get_there, slice_index_is, cases_Bool, left_either, map_stays, index_left, index_right, among_there}
 use Rattle.base_kept.proofs.Chosen.{before_drop}
 use Rattle.base_lists.specs.Members.{is_among}
 use Rattle.std.proofs.Common.{filter_map}

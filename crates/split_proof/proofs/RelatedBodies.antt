@@ -1,6 +1,8 @@
 -- The code of functions that stay in the primary module is related to theirs in the module, where what stands in place of calls of functions that move calls these through
 -- their slots.
-use Rattle.base_lists.proofs.Common.{◌≡◌, ◌∙◌, ap, sym, subst, refl, ℕ, suc, ◌+◌, ◌-◌, ◌<◌, ◌≤◌, ◌&&◌, ◌||◌, List, [], ◌∷◌, ◌++◌, map, length, not, Option, Some, None, Bool, true, false, cond, nat_eq, arith, true≢false, ⊎_elim, slice_get, slice_index, pos, nat_le, nat_lt, cons_option, leb-true, length-append, slice_get_within, same_Some, left_true, right_true, same_tests, each_same_self, every_at, places_many, numbers_at, numbers_index, append_right, and_from, cases_Bool, either_true, left_either, right_either, same_number, among_right, among_joined, among_there, there_among, place_is, no_place, none_among, the_one}
+use Rattle.base_lists.proofs.Common.{◌≡◌, ◌∙◌, ap, sym, subst, refl, ℕ, suc, ◌+◌, ◌-◌, ◌<◌, ◌≤◌, ◌&&◌, ◌||◌, List, [], ◌∷◌, ◌++◌, map, length, not, Option, Some, None, Bool, true, false, cond, nat_eq, arith, true≢false, ⊎_elim, slice_get, slice_index, pos, nat_le, nat_lt, cons_option, leb-true}
+use Rattle.base_lists.proofs.Common.{length-append, slice_get_within, same_Some, left_true, right_true, same_tests, each_same_self, every_at, places_many, numbers_at, numbers_index, append_right, and_from, cases_Bool, either_true, left_either, right_either, same_number, among_right, among_joined}
+use Rattle.base_lists.proofs.Common.{among_there, there_among, place_is, no_place, none_among, the_one}
 use Rattle.base_lists.specs.Members.{is_among}
 use Rattle.base_lists.proofs.Members.{among_map}
 use Rattle.std.proofs.Common.{eq-eqb}

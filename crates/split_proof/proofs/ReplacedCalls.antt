@@ -1,12 +1,14 @@
 -- A call of a function that moves in the first run, where other code stands in place of it in the second: it calls what is in the function's slot, or the function that is
 -- loaded for it.
-use Rattle.base_lists.proofs.Common.{◌≡◌, ◌∙◌, refl, sym, ap, ap₂, subst, ℕ, suc, ◌+◌, ◌≤◌, ◌&&◌, List, [], ◌∷◌, ◌++◌, Some, None, Bool, true, false, arith, slice_get, nat_eq, option_and_then, ℤ, and_parts, eqb-true, same_Some, and_then_is, map_from, unwrap_or_false_is, place_is, and_from, each_same_is, each_same_self}
+use Rattle.base_lists.proofs.Common.{◌≡◌, ◌∙◌, refl, sym, ap, ap₂, subst, ℕ, suc, ◌+◌, ◌≤◌, ◌&&◌, List, [], ◌∷◌, ◌++◌, Some, None, Bool, true, false, arith, slice_get, nat_eq, option_and_then, ℤ, and_parts, eqb-true, same_Some, and_then_is, map_from, unwrap_or_false_is, place_is, and_from}
+use Rattle.base_lists.proofs.Common.{each_same_is, each_same_self}
 use Rattle.base_lists.specs.Options.{◌>>=◌}
 use Rattle.base_simulation.specs.Machines.{Machine}
 use Rattle.wasm_num.specs.Operations.{W32, wrapped}
 use Rattle.wasm_tree_spec.specs.Prelude.{Functions, FuncType, Instr, Call, CallIndirect, I32Const, Module, same_type, same_types, same_func_type}
 use Rattle.wasm_tree.specs.declared.instr.Instr.{out-Instr}
-use Rattle.wasm_meaning.specs.Prelude.{Outcome, Gives, bind, or_ill_typed, Caller, Calls, Entry, Frame, Func, FuncRef, Host, Inst, Level, Num, Placeholder, Ran, Running, Starter, Store, Val, pop_typed, type_at, type_of_func, act, enter, enter_at, perform, step, to_mark, Environment, own_count, LoaderRun, LoaderWorld, tick_loader, Out, Run, Steps, made, tick, transition, transition_at, trapped_to}
+use Rattle.wasm_meaning.specs.Prelude.{Outcome, Gives, bind, or_ill_typed, Caller, Calls, Entry, Frame, Func, FuncRef, Host, Inst, Level, Num, Placeholder, Ran, Running, Starter, Store, Val, pop_typed, type_at, type_of_func, act, enter, enter_at, perform, step, to_mark, Environment, own_count}
+use Rattle.wasm_meaning.specs.Prelude.{LoaderRun, LoaderWorld, tick_loader, Out, Run, Steps, made, tick, transition, transition_at, trapped_to}
 use Rattle.index_remap.specs.Prelude.{FrameRel, LevelRel, ListRel, OneToOne, Pairing, ResRel, ValRel, cons, done, nil, trap, wrong, IsBegun, closed, CodeAt, InSlot, WithPassing, at_code}
 use Rattle.index_remap.specs.Trampolines as with_frames
 use Rattle.base_lists.specs.Related.{PairRel}
@@ -101,7 +103,8 @@ one_more : {S E : Type 0} (t : Machine S E) {n : ℕ} {s q r : S} → Stuttering
 one_more t here e = before e here
 one_more t (before f rest) e = before f (one_more t rest e)
 
-module _ (laws : SettleLaws) (answered : PlaceholdersAreAnswered) (namespace : ℕ → List ℕ) (names : SplitNames) (m : Module) (moved : List ℕ) (owns : List (List ℕ)) (g : CanBeSplit namespace names m moved owns) (env : Environment) (first second : Inst) (alike : InstancesAreRelated env m moved first second) (most : ℕ) where
+module _ (laws : SettleLaws) (answered : PlaceholdersAreAnswered) (namespace : ℕ → List ℕ) (names : SplitNames) (m : Module) (moved : List ℕ) (owns : List (List ℕ)) (g : CanBeSplit namespace names m moved owns) (env : Environment) (first second : Inst)
+    (alike : InstancesAreRelated env m moved first second) (most : ℕ) where
   abbrev w : LoaderWorld
   w = world laws answered namespace names m moved owns g env first second alike most
 
@@ -131,8 +134,22 @@ module _ (laws : SettleLaws) (answered : PlaceholdersAreAnswered) (namespace : �
     traps_too : (gs : List Entry) (o p : Outcome (Caller × List Entry)) → ResRel (PairRel (◌≡◌ {A = Caller}) (WithPassing R)) o p → TrapsToo gs o p
     traps_too gs _ _ trap = record { event = refl; related = record { store = h.related.store; entries = with_frames.nil; phase = h.related.phase; shown = h.related.shown; view = h.related.view; owned = h.related.owned; moves = refl }; begun = h.begun; first_store = refl; second_store = refl }
     traps_too gs _ _ wrong = record { event = refl; related = record { store = h.related.store; entries = with_frames.nil; phase = h.related.phase; shown = h.related.shown; view = h.related.view; owned = h.related.owned; moves = refl }; begun = h.begun; first_store = refl; second_store = refl }
-    traps_too gs _ _ (done {a = (Host, es)} {b = (Host, fs)} p) = record { event = refl; related = record { store = h.related.store; entries = p.second; phase = h.related.phase; shown = h.related.shown; view = h.related.view; owned = h.related.owned; moves = refl }; begun = h.begun; first_store = refl; second_store = refl }
-    traps_too gs _ _ (done {a = (Starter, es)} {b = (Starter, fs)} p) = record { event = refl; related = record { store = h.related.store; entries = with_frames.nil; phase = closed; shown = h.related.shown; view = h.related.view; owned = h.related.owned; moves = refl }; begun = tt; first_store = refl; second_store = refl }
+    traps_too gs _ _ (done {a = (Host, es)} {b = (Host, fs)} p) = record {
+      event = refl;
+      related = record { store = h.related.store; entries = p.second; phase = h.related.phase; shown = h.related.shown; view = h.related.view; owned = h.related.owned; moves = refl };
+      begun = h.begun;
+      first_store =
+          refl;
+      second_store = refl;
+    }
+    traps_too gs _ _ (done {a = (Starter, es)} {b = (Starter, fs)} p) = record {
+      event = refl;
+      related = record { store = h.related.store; entries = with_frames.nil; phase = closed; shown = h.related.shown; view = h.related.view; owned = h.related.owned; moves = refl };
+      begun = tt;
+      first_store =
+          refl;
+      second_store = refl;
+    }
     traps_too gs _ _ (done {a = (Host, es)} {b = (Starter, fs)} p) = absurd (let k = p.first in cc)
     traps_too gs _ _ (done {a = (Starter, es)} {b = (Host, fs)} p) = absurd (let k = p.first in cc)
 
@@ -189,7 +206,8 @@ module _ (laws : SettleLaws) (answered : PlaceholdersAreAnswered) (namespace : �
       marks : ResRel (PairRel (◌≡◌ {A = Caller}) (WithPassing R)) (to_mark r.entries) (to_mark e.second_below)
       marks = subst (λ es. ResRel (PairRel (◌≡◌ {A = Caller}) (WithPassing R)) (to_mark es) (to_mark e.second_below)) (sym e.top.1) ((between R (apart loaded)).marks e.stacks)
 
-      popped : (n c : ℕ) → n ≤ most + 2 → (k : Frame) → StutteringSteps (tick_loader w) n q (reached (Running k ∷ e.second_below)) → step q.run.store (Running k ∷ e.second_below) ≡ bind (pop_typed u.params e.second_level.values) (λ p. enter_at q.run.store c p.0 (second_below p.1)) → EntersCallee n c k → StepAnswered env m moved w first second most r q
+      popped : (n c : ℕ) → n ≤ most + 2 → (k : Frame) → StutteringSteps (tick_loader w) n q (reached (Running k ∷ e.second_below)) → step q.run.store (Running k ∷ e.second_below) ≡ bind (pop_typed u.params e.second_level.values) (λ p. enter_at q.run.store c p.0 (second_below p.1)) →
+          EntersCallee n c k → StepAnswered env m moved w first second most r q
       popped n c le k silent calls goes = by (pop_typed u.params e.level.values) (pop_typed u.params e.second_level.values) refl refl (pop_typed_rel R u.params levels.0.values)
         where
           by : (o p : Outcome (List Val × List Val)) → pop_typed u.params e.level.values ≡ o → pop_typed u.params e.second_level.values ≡ p → ResRel (PairRel (ListRel (ValRel R)) (ListRel (ValRel R))) o p → StepAnswered env m moved w first second most r q

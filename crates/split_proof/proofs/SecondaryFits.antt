@@ -1,5 +1,6 @@
 -- The map of a secondary module has an entry for each index that is named in its tree.
-use Rattle.base_lists.proofs.Common.{◌≡◌, ◌∙◌, ap, sym, refl, ℕ, ◌+◌, ◌-◌, ◌<◌, List, [], ◌∷◌, map, length, Bool, true, false, ◌&&◌, not, Option, Some, None, ⊎_elim, slice_get, arith, true≢false, IsTrue, list_all, length-append, length-map, slice_get_within, left_true, right_true, list_all_from, length-numbers, map_from, slice_get_there, and_from, cases_Bool, place_is, not-true}
+use Rattle.base_lists.proofs.Common.{◌≡◌, ◌∙◌, ap, sym, refl, ℕ, ◌+◌, ◌-◌, ◌<◌, List, [], ◌∷◌, map, length, Bool, true, false, ◌&&◌, not, Option, Some, None, ⊎_elim, slice_get, arith, true≢false, IsTrue, list_all, length-append, length-map, slice_get_within, left_true, right_true, list_all_from}
+use Rattle.base_lists.proofs.Common.{length-numbers, map_from, slice_get_there, and_from, cases_Bool, place_is, not-true}
 use Rattle.base_lists.specs.Places.{numbers}
 use Rattle.base_kept.specs.Kept.{new_places}
 use Rattle.wasm_tree_spec.specs.Prelude.{Operand, Space, Types, Functions, Tables, Memories, Globals, ElementSegments, DataSegments, Module, all_operands_pass, called, imported_funcs, funcs_of, tables_of, memories_of, globals_of}

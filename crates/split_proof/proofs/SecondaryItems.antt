@@ -1,5 +1,6 @@
 -- Each item of a secondary module holds, but for references.
-use Rattle.base_lists.proofs.Common.{◌≡◌, ◌∙◌, ap, ap₂, sym, subst, refl, ℕ, zero, suc, ◌+◌, ◌-◌, ◌<◌, List, [], ◌∷◌, ◌++◌, map, length, Option, Some, None, Bool, true, false, ◌&&◌, ◌||◌, not, ⊎_elim, option_and_then, slice_get, slice_index, arith, true≢false, option_map, length-map, slice_get_within, chosen_from, numbers_index, option_map_is, append_from, map_at, map_from, slice_get_there, left_either, right_either, any_from_place, among_append, place_is, no_place, none_among}
+use Rattle.base_lists.proofs.Common.{◌≡◌, ◌∙◌, ap, ap₂, sym, subst, refl, ℕ, zero, suc, ◌+◌, ◌-◌, ◌<◌, List, [], ◌∷◌, ◌++◌, map, length, Option, Some, None, Bool, true, false, ◌&&◌, ◌||◌, not, ⊎_elim, option_and_then, slice_get, slice_index, arith, true≢false, option_map, length-map}
+use Rattle.base_lists.proofs.Common.{slice_get_within, chosen_from, numbers_index, option_map_is, append_from, map_at, map_from, slice_get_there, left_either, right_either, any_from_place, among_append, place_is, no_place, none_among}
 use Rattle.base_lists.proofs.Bools.{left_false, right_false}
 use Rattle.base_lists.specs.Members.{is_among}
 use Rattle.std.proofs.Common.{eq-eqb}
@@ -64,7 +65,8 @@ module _ (laws : BodyLaws) (names : SplitNames) (m : Module) (holds : ItemsHold 
 
   pub imports_hold : AllHold (secondary_imports names m moved own)
   imports_hold =
-      both_hold _ _ (from_hold Functions) (both_hold _ _ (from_hold Tables) (both_hold (record { «module» = names.import_namespace; field = slots_name names.export_prefix; desc = im.Table (slot_table_type (length moved)) } ∷ []) _ slot_table_holds (both_hold _ _ (from_hold Memories) (from_hold Globals))))
+      both_hold _ _ (from_hold Functions) (both_hold _ _ (from_hold Tables) (both_hold (record { «module» = names.import_namespace; field = slots_name names.export_prefix; desc = im.Table (slot_table_type (length moved)) } ∷ []) _ slot_table_holds
+      (both_hold _ _ (from_hold Memories) (from_hold Globals))))
 
   desc_holds : (d : ImportDesc) → ImportHolds m d → ImportHolds new (new_import_desc map_of d)
   desc_holds (im.Func ty) h = subst (λ n. n < length m.types) (sym (numbers_index (length m.types) ty h)) h
@@ -117,7 +119,8 @@ module _ (laws : BodyLaws) (names : SplitNames) (m : Module) (holds : ItemsHold 
   body_met p f at o t = by (is_opaque_call moved o) refl
     where
       there : is_opaque_call moved o ≡ false → is_from_primary moved (defined_at m own) o.space o.index ≡ true
-      there e = any_from_place (λ f. any_operand_passes (is_named_from_primary moved o.space o.index) f.body) (defined_at m own) p (own_moves names m holds moved own before can p f at).func (own_at names m holds moved own before can p f at) (t (is_named_from_primary moved o.space o.index) (names_itself moved o e))
+      there e = any_from_place (λ f. any_operand_passes (is_named_from_primary moved o.space o.index) f.body) (defined_at m own) p (own_moves names m holds moved own before can p f at).func (own_at names m holds moved own before can p f at)
+          (t (is_named_from_primary moved o.space o.index) (names_itself moved o e))
 
       no_segment : names_segment o ≡ true → ⊥
       no_segment h = true≢false (sym (t names_segment h) ∙ (own_moves names m holds moved own before can p f at).names_none)

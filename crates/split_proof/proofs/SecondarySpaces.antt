@@ -1,5 +1,6 @@
 -- The index spaces of a secondary module: what it imports from the primary one and then the functions of its own, and where each index of the module goes.
-use Rattle.base_lists.proofs.Common.{◌≡◌, ◌∙◌, ap, ap₂, sym, refl, ℕ, ◌+◌, ◌-◌, ◌<◌, List, [], ◌∷◌, ◌++◌, map, length, Option, Some, None, Bool, true, false, option_and_then, slice_get, slice_index, arith, true≢false, option_map, cons_option, length-append, length-map, map-append, filter_map-append, get_or_from_slice_get, slice_get_within, every_at, length-numbers, numbers_at, numbers_index, and_then_is, append_at_left, append_right, map_at, map_from, push_last, slice_get_there, all_counted, map_stays, index_left, index_right}
+use Rattle.base_lists.proofs.Common.{◌≡◌, ◌∙◌, ap, ap₂, sym, refl, ℕ, ◌+◌, ◌-◌, ◌<◌, List, [], ◌∷◌, ◌++◌, map, length, Option, Some, None, Bool, true, false, option_and_then, slice_get, slice_index, arith, true≢false, option_map, cons_option, length-append, length-map, map-append, filter_map-append}
+use Rattle.base_lists.proofs.Common.{get_or_from_slice_get, slice_get_within, every_at, length-numbers, numbers_at, numbers_index, and_then_is, append_at_left, append_right, map_at, map_from, push_last, slice_get_there, all_counted, map_stays, index_left, index_right}
 use Rattle.base_lists.proofs.Filtered.{all_chosen}
 use Rattle.base_kept.proofs.Chosen.{chosen_kept, kept_counted, kept_given, kept_themselves, kept_none}
 use Rattle.std.proofs.Common.{filter_map}
@@ -7,7 +8,8 @@ use Rattle.std.proofs.lemmas.List.{append-nil}
 use Rattle.base_lists.specs.Places.{numbers}
 use Rattle.base_kept.specs.Kept.{is_marked, kept, new_places, kept_before}
 use Rattle.base_kept.proofs.Laws.{kept_from, moved as kept_moved}
-use Rattle.wasm_tree_spec.specs.Prelude.{Space, Types, Functions, Tables, Memories, Globals, ElementSegments, DataSegments, Limits, TableType, GlobalType, Func, Import, ImportDesc, Module, func_of, table_of, memory_of, global_of, imported_funcs, imported_tables, imported_memories, imported_globals, funcs_of, tables_of, memories_of, globals_of}
+use Rattle.wasm_tree_spec.specs.Prelude.{Space, Types, Functions, Tables, Memories, Globals, ElementSegments, DataSegments, Limits, TableType, GlobalType, Func, Import, ImportDesc, Module, func_of, table_of, memory_of, global_of, imported_funcs, imported_tables, imported_memories, imported_globals}
+use Rattle.wasm_tree_spec.specs.Prelude.{funcs_of, tables_of, memories_of, globals_of}
 use Rattle.wasm_tree.specs.declared.types.RefType.TheVariants.{Func as func_ref}
 use Rattle.wasm_tree.specs.declared.module.ImportDesc.TheVariants as im
 use Rattle.wasm_valid.specs.Prelude.{table_types, ItemsHold}
@@ -235,5 +237,6 @@ module _ (names : SplitNames) (m : Module) (holds : ItemsHold m) (moved own : Li
       let all = marks_many Tables in
       let counted : n ≡ length (kept (marks Tables) (tables_of m)) = kept_counted (marks Tables) (tables_of m) 0 (omega (arith, many, all)) in
       let at : slice_get (tables_of u) n ≡ Some (slot_table_type (length moved)) =
-      append_at_left (imported_tables u.imports) [] n (slot_table_type (length moved)) (ap (λ xs. slice_get xs n) imported_tables_are ∙ ap (slice_get (kept (marks Tables) (tables_of m) ++ slot_table_type (length moved) ∷ [])) counted ∙ push_last (kept (marks Tables) (tables_of m)) (slot_table_type (length moved))) in
+      append_at_left (imported_tables u.imports) [] n (slot_table_type (length moved)) (ap (λ xs. slice_get xs n) imported_tables_are ∙ ap (slice_get (kept (marks Tables) (tables_of m) ++ slot_table_type (length moved) ∷ [])) counted ∙
+      push_last (kept (marks Tables) (tables_of m)) (slot_table_type (length moved))) in
       ap (slice_get (table_types u)) entry ∙ map_at (λ t. t.ty) (tables_of u) n (slot_table_type (length moved)) at

@@ -1,5 +1,6 @@
 -- Where a secondary module is loaded the runs stand at the same place still, with its functions in their slots.
-use Rattle.base_lists.proofs.Common.{◌≡◌, ◌∙◌, refl, sym, ap, ap₂, subst, ℕ, suc, ◌+◌, ◌-◌, ◌<◌, ◌≤◌, ◌⊎◌, inl, inr, ⊎_elim, List, [], ◌∷◌, ◌++◌, length, Some, Bool, true, false, ◌&&◌, nat_eq, arith, slice_get, slice_set, decimal, list_any, and_parts, cases_lt, eqb-true, decimal_injective, length-append, length-map, list_any-append, slice_get_within, same_Some, length-numbers, numbers_at, and_then_is, append_at_left, append_left, append_right, map_at, set_at, set_other, either_true}
+use Rattle.base_lists.proofs.Common.{◌≡◌, ◌∙◌, refl, sym, ap, ap₂, subst, ℕ, suc, ◌+◌, ◌-◌, ◌<◌, ◌≤◌, ◌⊎◌, inl, inr, ⊎_elim, List, [], ◌∷◌, ◌++◌, length, Some, Bool, true, false, ◌&&◌, nat_eq, arith, slice_get, slice_set, decimal, list_any, and_parts, cases_lt, eqb-true, decimal_injective}
+use Rattle.base_lists.proofs.Common.{length-append, length-map, list_any-append, slice_get_within, same_Some, length-numbers, numbers_at, and_then_is, append_at_left, append_left, append_right, map_at, set_at, set_other, either_true}
 use Rattle.base_lists.specs.Options.{◌>>=◌, all_there}
 use Rattle.base_lists.specs.Places.{numbers}
 use Rattle.wasm_tree_spec.specs.Prelude.{Functions, FuncType, Module}
@@ -102,7 +103,8 @@ module _ (laws : SettleLaws) (namespace : ℕ → List ℕ) (names : SplitNames)
     kept = loads_keep laws.begin laws.stores_stay namespace names m moved owns g env first second alike x.own x.before x.slots loaded r.store q.run.store after loads.added.inst loads.is_loaded h.funcs.moves h.related.store
 
     stays : StaysIn q.run.store after
-    stays = let things = and_then_is (all_there (λ x. export_named (primary_with namespace names.export_prefix m moved).exports x.field >>= (address_in second)) module_loaded.«module».imports) (added q.run.store module_loaded.«module») loads.added loads.links in laws.added q.run.store module_loaded.«module» things.0 loads.added things.2
+    stays = let things = and_then_is (all_there (λ x. export_named (primary_with namespace names.export_prefix m moved).exports x.field >>= (address_in second)) module_loaded.«module».imports) (added q.run.store module_loaded.«module») loads.added loads.links in
+        laws.added q.run.store module_loaded.«module» things.0 loads.added things.2
 
     written : (zs : List RefVal) × (overwrite h.funcs.table.slots x.before (references count (length x.own)) ≡ Some zs) × (slice_get after.tables (slot_table_address env m) ≡ Some (record h.funcs.table { slots = zs }))
     written = loads.is_loaded.slots_filled (slot_table_address env m) h.funcs.table alike.slots h.funcs.table_stands

@@ -1,5 +1,6 @@
 -- What the items of a valid module say of its index spaces: each entity is such as an import of it may describe (WebAssembly Core 2.0, section 3.4.9).
-use Rattle.base_lists.proofs.Common.{◌≡◌, ◌∙◌, ap, sym, subst, ℕ, ◌<◌, List, [], ◌∷◌, ◌++◌, append-nil, map, length, Option, Some, true, ⊎_elim, slice_get, ◌+◌, ◌-◌, ◌≤◌, false, arith, slice_get_within, chosen_from, nat_le, nat_lt, option_map_or, leb-true, ltb-true, length-append, length-map, left_true, right_true, append_right, map_at, slice_get_there, append_from, map_from}
+use Rattle.base_lists.proofs.Common.{◌≡◌, ◌∙◌, ap, sym, subst, ℕ, ◌<◌, List, [], ◌∷◌, ◌++◌, append-nil, map, length, Option, Some, true, ⊎_elim, slice_get, ◌+◌, ◌-◌, ◌≤◌, false, arith, slice_get_within, chosen_from, nat_le, nat_lt, option_map_or, leb-true, ltb-true, length-append, length-map}
+use Rattle.base_lists.proofs.Common.{left_true, right_true, append_right, map_at, slice_get_there, append_from, map_from}
 use Rattle.std.proofs.Common.{filter_map}
 use Rattle.wasm_tree_spec.specs.Prelude.{Space, Types, Functions, Tables, Memories, Globals, ElementSegments, DataSegments, Limits, TableType, Func, Import, ImportDesc, Module, func_of, table_of, memory_of, imported_funcs, funcs_of, any_operand_passes}
 use Rattle.wasm_tree.specs.declared.module.ImportDesc.TheVariants as im

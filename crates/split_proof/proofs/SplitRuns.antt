@@ -102,7 +102,8 @@ module _ (laws : Laws) (steps : StepLaws) (alike : InstancesOfSplitsAreRelated) 
           shown = shown false x y;
           states = subst (λ o. Place (tick (fresh_run env o moves)).0 (tick_loader w (fresh_loader env w moves)).0) (sym e)
               (going (states.i laws namespace names m moved owns g env moves b e c f) (states.j laws namespace names m moved owns g env moves b e c f)
-              (alike namespace names m moved owns g env (states.i laws namespace names m moved owns g env moves b e c f) (first_insts laws namespace names m moved owns g env b e) (second_begins laws namespace names m moved owns g env c f).made (second_begins laws namespace names m moved owns g env c f).is_made)
+              (alike namespace names m moved owns g env (states.i laws namespace names m moved owns g env moves b e c f) (first_insts laws namespace names m moved owns g env b e) (second_begins laws namespace names m moved owns g env c f).made
+              (second_begins laws namespace names m moved owns g env c f).is_made)
               [] (states.states laws namespace names m moved owns g env moves b e c f x));
         }
         by true false x y = absurd (let t = h.trapped in cc)

@@ -13,7 +13,8 @@ use Rattle.split_proof.specs.Laws.{CanBeSplit}
 -- the relation of addresses is one to one, whatever is loaded
 abbrev pub SplitAddressesAreOneToOne : Type 0
 SplitAddressesAreOneToOne =
-    (namespace : ℕ → List ℕ) (names : SplitNames) (m : Module) (moved : List ℕ) (owns : List (List ℕ)) → CanBeSplit namespace names m moved owns → (env : Environment) (loaded : List (ℕ × ℕ)) → OneToOne (split_pairing env m moved loaded)
+    (namespace : ℕ → List ℕ) (names : SplitNames) (m : Module) (moved : List ℕ) (owns : List (List ℕ)) → CanBeSplit namespace names m moved owns → (env : Environment) (loaded : List (ℕ × ℕ)) →
+    OneToOne (split_pairing env m moved loaded)
 
 -- ---- instantiation ----
 

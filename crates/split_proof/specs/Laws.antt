@@ -6,7 +6,8 @@ use Rattle.std.specs.List.Sorted.{IsStrictlyIncreasing}
 use Rattle.wasm_tree_spec.specs.Prelude.{Module, IsBounded}
 use Rattle.wasm_valid.specs.Prelude.{IsValid}
 use Rattle.base_simulation.specs.Machines.{state_after}
-use Rattle.wasm_meaning.specs.Prelude.{Gives, Val, Inst, Store, Entry, CallsPlaceholder, Environment, is_environment, alone, Added, Run, Move, Steps, transition, Same, events, Secondary, LoaderWorld, LoaderRun, secondary_of, tick_loader, fresh_loader, events_loaded}
+use Rattle.wasm_meaning.specs.Prelude.{Gives, Val, Inst, Store, Entry, CallsPlaceholder, Environment, is_environment, alone, Added, Run, Move, Steps, transition, Same, events, Secondary, LoaderWorld}
+use Rattle.wasm_meaning.specs.Prelude.{LoaderRun, secondary_of, tick_loader, fresh_loader, events_loaded}
 use Rattle.wasm_meaning.specs.Loader.{secondary_added}
 use Rattle.std.specs.Prelude.{IsTrue}
 use Rattle.split_spec.specs.declared.names.SplitNames.{SplitNames}
@@ -70,16 +71,19 @@ AlwaysLoads w = (env : Environment) → IsTrue (is_environment env) → (moves :
 -- a split under its loader is observationally equivalent to the module
 abbrev pub SplitModuleEquivalent : Type 0
 SplitModuleEquivalent =
-    (namespace : ℕ → List ℕ) (names : SplitNames) (m : Module) (moved : List ℕ) (owns : List (List ℕ)) → CanBeSplit namespace names m moved owns → ObservationallyEquivalent m (split_world namespace names m moved owns) (most_params m moved)
+    (namespace : ℕ → List ℕ) (names : SplitNames) (m : Module) (moved : List ℕ) (owns : List (List ℕ)) → CanBeSplit namespace names m moved owns →
+    ObservationallyEquivalent m (split_world namespace names m moved owns) (most_params m moved)
 
 -- each secondary module of a split can be loaded wherever a run asks for it
 abbrev pub SecondariesAlwaysLoad : Type 0
 SecondariesAlwaysLoad =
-    (namespace : ℕ → List ℕ) (names : SplitNames) (m : Module) (moved : List ℕ) (owns : List (List ℕ)) → CanBeSplit namespace names m moved owns → AlwaysLoads (split_world namespace names m moved owns)
+    (namespace : ℕ → List ℕ) (names : SplitNames) (m : Module) (moved : List ℕ) (owns : List (List ℕ)) → CanBeSplit namespace names m moved owns →
+    AlwaysLoads (split_world namespace names m moved owns)
 
 -- a split with one secondary module has the premises, if the functions that move ascend, no import
 -- has the namespace of the placeholders, and no export has an added name
 abbrev pub PairsCanBeSplit : Type 0
 PairsCanBeSplit =
-    (names : SplitNames) (m : Module) (moved : List ℕ) → IsValid m → IsBounded m → CanMove m moved → IsStrictlyIncreasing moved → namespace_taken names.placeholder_namespace m ≡ None → prefix_taken names.export_prefix m moved ≡ None →
+    (names : SplitNames) (m : Module) (moved : List ℕ) → IsValid m → IsBounded m → CanMove m moved → IsStrictlyIncreasing moved → namespace_taken names.placeholder_namespace m ≡ None →
+    prefix_taken names.export_prefix m moved ≡ None →
     CanBeSplit (λ slot. names.placeholder_namespace) names m moved (moved ∷ [])

@@ -34,7 +34,8 @@ pub record InstancesAreRelated (env : Environment) (m : Module) (moved : List �
 -- The instances are related once both are instantiated.
 abbrev pub InstancesOfSplitsAreRelated : Type 0
 InstancesOfSplitsAreRelated =
-    (namespace : ℕ → List ℕ) (names : SplitNames) (m : Module) (moved : List ℕ) (owns : List (List ℕ)) → CanBeSplit namespace names m moved owns → (env : Environment) (i : Inst) → insts_from env (one m) 0 (one m) ≡ Some (i ∷ []) →
+    (namespace : ℕ → List ℕ) (names : SplitNames) (m : Module) (moved : List ℕ) (owns : List (List ℕ)) → CanBeSplit namespace names m moved owns → (env : Environment) (i : Inst) →
+    insts_from env (one m) 0 (one m) ≡ Some (i ∷ []) →
     (a : Added) → primary_added env (split_world namespace names m moved owns) ≡ Some a → InstancesAreRelated env m moved i a.inst
 
 -- ---- loaded functions ----
@@ -56,7 +57,9 @@ pub record RelatedAsLoaded (env : Environment) (m : Module) (moved : List ℕ) (
 -- functions of this load as well.
 abbrev pub LoadsKeepTheRelation : Type 0
 LoadsKeepTheRelation =
-    (namespace : ℕ → List ℕ) (names : SplitNames) (m : Module) (moved : List ℕ) (owns : List (List ℕ)) → CanBeSplit namespace names m moved owns → (env : Environment) (i j : Inst) → InstancesAreRelated env m moved i j →
+    (namespace : ℕ → List ℕ) (names : SplitNames) (m : Module) (moved : List ℕ) (owns : List (List ℕ)) → CanBeSplit namespace names m moved owns → (env : Environment) (i j : Inst) →
+    InstancesAreRelated env m moved i j →
     (own : List ℕ) (before : ℕ) → HasSlots moved own before → (loaded : List (ℕ × ℕ)) (s z t : Store) (k : Inst) → IsLoaded m moved own before j k z t →
-    ((slot func : ℕ) (f : tree.Func) → slice_get moved slot ≡ Some func → slice_get m.funcs (func - length (imported_funcs m.imports)) ≡ Some f → slice_get s.funcs (defined_address env m func) ≡ new_func i f) → StoreRel (split_pairing env m moved loaded) s z →
+    ((slot func : ℕ) (f : tree.Func) → slice_get moved slot ≡ Some func → slice_get m.funcs (func - length (imported_funcs m.imports)) ≡ Some f → slice_get s.funcs (defined_address env m func) ≡
+    new_func i f) → StoreRel (split_pairing env m moved loaded) s z →
     RelatedAsLoaded env m moved (loaded ++ loaded_from env m own (length z.funcs)) own (length z.funcs) s t

@@ -23,10 +23,14 @@ use Rattle.split_proof.specs.Premises.{CanMove}
 -- instances these entries name one entity. So do both indices of the slot table.
 pub record NamesWhatThePrimaryHas (m : Module) (moved own : List ℕ) (primary secondary : Inst) : Type 0 where
   pub types : secondary.types ≡ m.types
-  pub funcs : (x : ℕ) → x < length (funcs_of m) → is_from_primary moved (defined_at m own) Functions x ≡ true → slice_get secondary.funcs (slice_index (secondary_map m moved own).funcs x) ≡ slice_get primary.funcs (slice_index (primary_map m moved).funcs x)
-  pub tables : (x : ℕ) → x < length (tables_of m) → is_from_primary moved (defined_at m own) Tables x ≡ true → slice_get secondary.tables (slice_index (secondary_map m moved own).tables x) ≡ slice_get primary.tables x
-  pub mems : (x : ℕ) → x < length (memories_of m) → is_from_primary moved (defined_at m own) Memories x ≡ true → slice_get secondary.mems (slice_index (secondary_map m moved own).mems x) ≡ slice_get primary.mems x
-  pub globals : (x : ℕ) → x < length (globals_of m) → is_from_primary moved (defined_at m own) Globals x ≡ true → slice_get secondary.globals (slice_index (secondary_map m moved own).globals x) ≡ slice_get primary.globals x
+  pub funcs : (x : ℕ) → x < length (funcs_of m) → is_from_primary moved (defined_at m own) Functions x ≡ true →
+      slice_get secondary.funcs (slice_index (secondary_map m moved own).funcs x) ≡ slice_get primary.funcs (slice_index (primary_map m moved).funcs x)
+  pub tables : (x : ℕ) → x < length (tables_of m) → is_from_primary moved (defined_at m own) Tables x ≡ true →
+      slice_get secondary.tables (slice_index (secondary_map m moved own).tables x) ≡ slice_get primary.tables x
+  pub mems : (x : ℕ) → x < length (memories_of m) → is_from_primary moved (defined_at m own) Memories x ≡ true →
+      slice_get secondary.mems (slice_index (secondary_map m moved own).mems x) ≡ slice_get primary.mems x
+  pub globals : (x : ℕ) → x < length (globals_of m) → is_from_primary moved (defined_at m own) Globals x ≡ true →
+      slice_get secondary.globals (slice_index (secondary_map m moved own).globals x) ≡ slice_get primary.globals x
   pub slots : slice_get secondary.tables (slice_index (secondary_map m moved own).tables (slot_table m)) ≡ slice_get primary.tables (slot_table m)
 
 -- ---- what it leaves ----
@@ -41,9 +45,11 @@ pub record IsLoaded (m : Module) (moved own : List ℕ) (before : ℕ) (primary 
   pub names : NamesWhatThePrimaryHas m moved own primary secondary
   -- the own functions, by index
   pub own_index : (p : ℕ) → p < length own → slice_get secondary.funcs (slice_index (secondary_map m moved own).funcs (length (funcs_of m) + p)) ≡ Some (length s.funcs + p)
-  pub own_stands : (p : ℕ) (f : tree.Func) → slice_get (defined_at m own) p ≡ Some f → Stands t.funcs (length s.funcs + p) (world.new_func secondary (new_func (secondary_map m moved own) (secondary_func m moved own f)))
+  pub own_stands : (p : ℕ) (f : tree.Func) → slice_get (defined_at m own) p ≡ Some f →
+      Stands t.funcs (length s.funcs + p) (world.new_func secondary (new_func (secondary_map m moved own) (secondary_func m moved own f)))
   -- the slot table, with references to these functions in their slots
-  pub slots_filled : (a : ℕ) (u : Table) → slice_get primary.tables (slot_table m) ≡ Some a → slice_get s.tables a ≡ Some u → (slots : List RefVal) × (overwrite u.slots before (references (length s.funcs) (length own)) ≡ Some slots) × (slice_get t.tables a ≡ Some (record u { slots = slots }))
+  pub slots_filled : (a : ℕ) (u : Table) → slice_get primary.tables (slot_table m) ≡ Some a → slice_get s.tables a ≡ Some u →
+      (slots : List RefVal) × (overwrite u.slots before (references (length s.funcs) (length own)) ≡ Some slots) × (slice_get t.tables a ≡ Some (record u { slots = slots }))
   -- everything else is unchanged
   pub earlier_funcs : (a : ℕ) (f : Func) → slice_get s.funcs a ≡ Some f → slice_get t.funcs a ≡ Some f
   pub other_tables : (a : ℕ) (u : Table) → slice_get s.tables a ≡ Some u → (slice_get primary.tables (slot_table m) ≡ Some a → ⊥) → slice_get t.tables a ≡ Some u
@@ -65,5 +71,6 @@ pub record Loads (namespace : ℕ → List ℕ) (names : SplitNames) (m : Module
 -- primary module says.
 abbrev pub SecondariesLoad : Type 0
 SecondariesLoad =
-    (namespace : ℕ → List ℕ) (names : SplitNames) (m : Module) (moved own : List ℕ) (before : ℕ) → IsValid m → IsBounded m → CanMove m moved → length moved < 2 ^ 32 → prefix_taken names.export_prefix m moved ≡ None → HasSlots moved own before →
+    (namespace : ℕ → List ℕ) (names : SplitNames) (m : Module) (moved own : List ℕ) (before : ℕ) → IsValid m → IsBounded m → CanMove m moved → length moved < 2 ^ 32 →
+    prefix_taken names.export_prefix m moved ≡ None → HasSlots moved own before →
     (primary : Inst) (s : Store) → IsTyped (primary_with namespace names.export_prefix m moved) primary s → Loads namespace names m moved own before primary s

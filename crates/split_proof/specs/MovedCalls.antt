@@ -69,4 +69,5 @@ pub data StepsCallMovedTogether (R : Pairing) (r q : Run) : Type 0 where
 -- Each step goes one of these ways, if the code relation is the simulation relation.
 abbrev pub EveryStepCallsMovedTogether : Type 0
 EveryStepCallsMovedTogether =
-    (of : Space → ℕ → ℕ → Bool) (l : List ℕ) (stands : CodeTest) → OneToOne (passed_with of of l stands) → (r q : Run) → IsBegun r.phase → RunsRelated (passed_with of of l stands) r q → StepsCallMovedTogether (passed_with of of l stands) r q
+    (of : Space → ℕ → ℕ → Bool) (l : List ℕ) (stands : CodeTest) → OneToOne (passed_with of of l stands) → (r q : Run) → IsBegun r.phase → RunsRelated (passed_with of of l stands) r q →
+    StepsCallMovedTogether (passed_with of of l stands) r q

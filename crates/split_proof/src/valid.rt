@@ -35,9 +35,11 @@ pub fn replacing_calls_commutes_with_renumbering()
 /// input module has (`single`), and is bounded if none of its counts is above its limit
 /// (`bounded`); these need only some of the premises.
 pub fn primary_modules_are_valid()
-    ensures valid { (namespace : ℕ → List ℕ) (prefix : List ℕ) (m : Module) (moved : List ℕ) → IsValid m → IsBounded m → CanMove m moved → prefix_taken prefix m moved ≡ None → IsValid (primary_with namespace prefix m moved) }
+    ensures valid { (namespace : ℕ → List ℕ) (prefix : List ℕ) (m : Module) (moved : List ℕ) → IsValid m → IsBounded m → CanMove m moved → prefix_taken prefix m moved ≡ None →
+        IsValid (primary_with namespace prefix m moved) }
     ensures single { (namespace : ℕ → List ℕ) (prefix : List ℕ) (m : Module) (moved : List ℕ) → IsValid m → CanMove m moved → IsSingle m → IsSingle (primary_with namespace prefix m moved) }
-    ensures bounded { (namespace : ℕ → List ℕ) (prefix : List ℕ) (m : Module) (moved : List ℕ) → IsValid m → IsBounded m → CanMove m moved → over_limit (primary_with namespace prefix m moved) ≡ None → IsBounded (primary_with namespace prefix m moved) }
+    ensures bounded { (namespace : ℕ → List ℕ) (prefix : List ℕ) (m : Module) (moved : List ℕ) → IsValid m → IsBounded m → CanMove m moved → over_limit (primary_with namespace prefix m moved) ≡
+        None → IsBounded (primary_with namespace prefix m moved) }
 {
     operands_pass_layer_by_layer();
     steps_agree();
@@ -53,7 +55,8 @@ pub fn primary_modules_are_valid()
 pub fn secondary_modules_are_valid()
     ensures valid { (names : SplitNames) (m : Module) (moved own : List ℕ) (before : ℕ) → IsValid m → CanMove m own → IsValid (secondary_with names m moved own before) }
     ensures single { (names : SplitNames) (m : Module) (moved own : List ℕ) (before : ℕ) → IsValid m → CanMove m own → IsSingle m → IsSingle (secondary_with names m moved own before) }
-    ensures bounded { (names : SplitNames) (m : Module) (moved own : List ℕ) (before : ℕ) → IsValid m → IsBounded m → CanMove m own → over_limit (secondary_with names m moved own before) ≡ None → IsBounded (secondary_with names m moved own before) }
+    ensures bounded { (names : SplitNames) (m : Module) (moved own : List ℕ) (before : ℕ) → IsValid m → IsBounded m → CanMove m own → over_limit (secondary_with names m moved own before) ≡ None →
+        IsBounded (secondary_with names m moved own before) }
 {
     operands_pass_layer_by_layer();
     steps_agree();
@@ -67,8 +70,10 @@ pub fn secondary_modules_are_valid()
 /// it renumbers (`primary`, `secondary`). The premises are that the input module is valid, and that
 /// the functions `moved`, or `own`, can move.
 pub fn maps_of_a_split_fit()
-    ensures primary { (namespace : ℕ → List ℕ) (prefix : List ℕ) (m : Module) (moved : List ℕ) → IsValid m → CanMove m moved → IsTrue (fits_tree (primary_map m moved) (primary_tree namespace prefix m moved)) }
-    ensures secondary { (names : SplitNames) (m : Module) (moved own : List ℕ) (before : ℕ) → IsValid m → CanMove m own → IsTrue (fits_tree (secondary_map m moved own) (secondary_tree names m moved own before)) }
+    ensures primary { (namespace : ℕ → List ℕ) (prefix : List ℕ) (m : Module) (moved : List ℕ) → IsValid m → CanMove m moved →
+        IsTrue (fits_tree (primary_map m moved) (primary_tree namespace prefix m moved)) }
+    ensures secondary { (names : SplitNames) (m : Module) (moved own : List ℕ) (before : ℕ) → IsValid m → CanMove m own →
+        IsTrue (fits_tree (secondary_map m moved own) (secondary_tree names m moved own before)) }
 {
     operands_pass_layer_by_layer();
     steps_agree();
@@ -86,8 +91,10 @@ pub fn maps_of_a_split_fit()
 /// input module is valid and that the functions can move.
 pub fn split_modules_are_counted()
     ensures imports { (namespace : ℕ → List ℕ) (prefix : List ℕ) (m : Module) (moved : List ℕ) → length (primary_with namespace prefix m moved).imports ≡ length m.imports + length moved }
-    ensures primary { (namespace : ℕ → List ℕ) (prefix : List ℕ) (m : Module) (moved : List ℕ) → IsValid m → CanMove m moved → length (funcs_of (renumbered_tree (primary_map m moved) (primary_tree namespace prefix m moved))) ≤ length (funcs_of m) + length moved }
-    ensures secondary { (names : SplitNames) (m : Module) (moved own : List ℕ) (before : ℕ) → IsValid m → CanMove m own → length (funcs_of (renumbered_tree (secondary_map m moved own) (secondary_tree names m moved own before))) ≤ length (funcs_of m) + length own }
+    ensures primary { (namespace : ℕ → List ℕ) (prefix : List ℕ) (m : Module) (moved : List ℕ) → IsValid m → CanMove m moved →
+        length (funcs_of (renumbered_tree (primary_map m moved) (primary_tree namespace prefix m moved))) ≤ length (funcs_of m) + length moved }
+    ensures secondary { (names : SplitNames) (m : Module) (moved own : List ℕ) (before : ℕ) → IsValid m → CanMove m own →
+        length (funcs_of (renumbered_tree (secondary_map m moved own) (secondary_tree names m moved own before))) ≤ length (funcs_of m) + length own }
 {
     valid_where_items_hold();
 }

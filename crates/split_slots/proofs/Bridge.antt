@@ -1,5 +1,6 @@
 -- What is made of calls and functions is what the definitions of a split say, where the table of slots is that of the functions that move.
-use Rattle.base_lists.proofs.Common.{◌≡◌, ℕ, suc, ◌+◌, ◌-◌, ◌<◌, arith, Bool, true, false, ◌&&◌, cond, List, [], ◌∷◌, ◌++◌, map, length, nat_eq, Option, Some, None, refl, sym, ap, ap₂, ◌∙◌, slice_get, slice_index, nat_le, nat_lt, pos, option_and_then, option_map_or, and-false, fun_ext, le-leb, le-ltb, lt-ltb, slice_index_is}
+use Rattle.base_lists.proofs.Common.{◌≡◌, ℕ, suc, ◌+◌, ◌-◌, ◌<◌, arith, Bool, true, false, ◌&&◌, cond, List, [], ◌∷◌, ◌++◌, map, length, nat_eq, Option, Some, None, refl, sym, ap, ap₂, ◌∙◌, slice_get, slice_index, nat_le, nat_lt, pos, option_and_then, option_map_or, and-false, fun_ext, le-leb}
+use Rattle.base_lists.proofs.Common.{le-ltb, lt-ltb, slice_index_is}
 use Rattle.base_lists.specs.Every.{Every}
 use Rattle.base_lists.specs.Places.{first_place, numbers}
 use Rattle.wasm_tree_spec.specs.Prelude.{Func, Module, Instr, Call, funcs_of, type_of_func}

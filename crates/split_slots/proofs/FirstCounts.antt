@@ -1,5 +1,6 @@
 -- What the first counts of the primary module tell before it is built: no more defined functions are left out than move.
-use Rattle.base_lists.proofs.Common.{◌≡◌, ℕ, zero, suc, ◌+◌, ◌<◌, ◌≤◌, arith, Bool, true, false, ◌||◌, not, cond, List, [], ◌∷◌, drop, map, length, nat_eq, nat_lt, Option, Some, None, refl, sym, ap, ap₂, ◌∙◌, eqb-true, ltb-true, ltb-false, lt-ltb, length-append, length-drop, length-map, filter_map_most, length-numbers}
+use Rattle.base_lists.proofs.Common.{◌≡◌, ℕ, zero, suc, ◌+◌, ◌<◌, ◌≤◌, arith, Bool, true, false, ◌||◌, not, cond, List, [], ◌∷◌, drop, map, length, nat_eq, nat_lt, Option, Some, None, refl, sym, ap, ap₂, ◌∙◌, eqb-true, ltb-true, ltb-false, lt-ltb, length-append, length-drop, length-map}
+use Rattle.base_lists.proofs.Common.{filter_map_most, length-numbers}
 use Rattle.base_lists.specs.Members.{is_among}
 use Rattle.base_lists.specs.Places.{count_of, numbers}
 use Rattle.base_kept.specs.Kept.{kept}

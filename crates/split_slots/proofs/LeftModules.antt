@@ -1,5 +1,6 @@
 -- What is left of a module that is split, and the functions that moved, are what the definitions of a split say.
-use Rattle.base_lists.proofs.Common.{◌≡◌, ℕ, suc, ◌+◌, ◌<◌, ◌≤◌, ◌^◌, arith, Bool, List, [], ◌∷◌, ◌++◌, drop, map, length, is_some, Option, Some, None, refl, sym, ap, ap₂, ◌∙◌, slice_get, option_map_or, IsStrictlyIncreasing, length-append, length-map, every_at, length-numbers, append_right, map_at, place_is}
+use Rattle.base_lists.proofs.Common.{◌≡◌, ℕ, suc, ◌+◌, ◌<◌, ◌≤◌, ◌^◌, arith, Bool, List, [], ◌∷◌, ◌++◌, drop, map, length, is_some, Option, Some, None, refl, sym, ap, ap₂, ◌∙◌, slice_get, option_map_or, IsStrictlyIncreasing, length-append, length-map, every_at, length-numbers, append_right, map_at}
+use Rattle.base_lists.proofs.Common.{place_is}
 use Rattle.base_kept.specs.Kept.{kept}
 use Rattle.base_lists.specs.Every.{Every}
 use Rattle.base_lists.specs.Places.{numbers}

@@ -1,5 +1,6 @@
 -- Marks that are set one after the other.
-use Rattle.base_lists.proofs.Common.{◌≡◌, ℕ, zero, suc, ◌+◌, ◌-◌, ◌≤◌, arith, map, take, replicate, Bool, true, false, ◌&&◌, ◌||◌, not, List, [], ◌∷◌, ◌++◌, length, Option, Some, None, is_some, option_map, refl, sym, ap, ap₂, ◌∙◌, nat_eq, slice_get, cons_option, list_any, filter_map-append, or_assoc, or-false, and-false, list_any-append, same_number}
+use Rattle.base_lists.proofs.Common.{◌≡◌, ℕ, zero, suc, ◌+◌, ◌-◌, ◌≤◌, arith, map, take, replicate, Bool, true, false, ◌&&◌, ◌||◌, not, List, [], ◌∷◌, ◌++◌, length, Option, Some, None, is_some, option_map, refl, sym, ap, ap₂, ◌∙◌, nat_eq, slice_get, cons_option, list_any, filter_map-append}
+use Rattle.base_lists.proofs.Common.{or_assoc, or-false, and-false, list_any-append, same_number}
 use Rattle.base_lists.specs.Places.{numbers}
 use Rattle.wasm_tree_spec.specs.Prelude.{Func, Module, imported_funcs, Space, Operand, listed, same_space}
 use Rattle.split_spec.specs.Prelude.{defined_at}

@@ -1,5 +1,6 @@
 -- The functions that are taken out are the definitions of those that move, in the order of their slots.
-use Rattle.base_lists.proofs.Common.{◌≡◌, ◌≢◌, ℕ, zero, suc, ◌+◌, ◌-◌, ◌<◌, ◌≤◌, arith, Bool, true, false, ◌||◌, cond, List, [], ◌∷◌, nat_eq, nat_lt, is_some, refl, sym, ap, ap₂, ◌∙◌, subst, slice_get, slice_index, cons_option, filter_map, IsStrictlyIncreasing, eq-eqb, eqb-false, ltb-false, ltb-true, same_number}
+use Rattle.base_lists.proofs.Common.{◌≡◌, ◌≢◌, ℕ, zero, suc, ◌+◌, ◌-◌, ◌<◌, ◌≤◌, arith, Bool, true, false, ◌||◌, cond, List, [], ◌∷◌, nat_eq, nat_lt, is_some, refl, sym, ap, ap₂, ◌∙◌, subst, slice_get, slice_index, cons_option, filter_map, IsStrictlyIncreasing, eq-eqb, eqb-false, ltb-false}
+use Rattle.base_lists.proofs.Common.{ltb-true, same_number}
 use Rattle.base_lists.specs.Members.{is_among}
 use Rattle.wasm_tree_spec.specs.Prelude.{Func}
 use Rattle.split_slots.specs.declared.calls.Calls.{Calls}

@@ -1,5 +1,6 @@
 -- Code in which other code stands in place of calls, made instruction by instruction.
-use Rattle.base_lists.proofs.Common.{◌≡◌, ℕ, zero, suc, ◌+◌, ◌-◌, ◌<◌, ◌≤◌, arith, length, Bool, true, false, ◌&&◌, cond, List, [], ◌∷◌, ◌++◌, map, take, drop, Option, Some, None, ◌⊎◌, inl, inr, refl, sym, ap, ap₂, ◌∙◌, slice_get, slice_index, append_assoc, add-one, nat_le, nat_lt, flat_map, part, part_at, cases_lt}
+use Rattle.base_lists.proofs.Common.{◌≡◌, ℕ, zero, suc, ◌+◌, ◌-◌, ◌<◌, ◌≤◌, arith, length, Bool, true, false, ◌&&◌, cond, List, [], ◌∷◌, ◌++◌, map, take, drop, Option, Some, None, ◌⊎◌, inl, inr, refl, sym, ap, ap₂, ◌∙◌, slice_get, slice_index, append_assoc, add-one, nat_le, nat_lt, flat_map, part}
+use Rattle.base_lists.proofs.Common.{part_at, cases_lt}
 use Rattle.wasm_tree_spec.specs.Prelude.{BlockType, Instr, fold_out-Instr, map-Instr, Block, Block', Loop, Loop', If, If', Call, outs-Block, outs-Loop, outs-If}
 use Rattle.wasm_tree.specs.declared.instr.Instr.{out-Instr}
 use Rattle.wasm_tree.specs.declared.instr.Instr.TheOpen.{Instr-F}

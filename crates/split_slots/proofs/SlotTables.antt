@@ -1,5 +1,6 @@
 -- Tables of slots, made one slot at a time.
-use Rattle.base_lists.proofs.Common.{◌≡◌, ◌≢◌, ℕ, zero, suc, ◌+◌, ◌-◌, ◌<◌, ◌≤◌, Bool, true, false, cond, List, [], ◌∷◌, ◌++◌, map, take, length, nat_eq, Option, Some, None, refl, sym, ap, ap₂, ◌∙◌, arith, slice_get, slice_set, slice_index, replicate, subst, is_some, unwrap_or, ◌||◌, IsStrictlyIncreasing, eq-eqb, every_at, map_at, slice_get_none, slice_get_there, slice_index_is, length-numbers, numbers_is, same_number}
+use Rattle.base_lists.proofs.Common.{◌≡◌, ◌≢◌, ℕ, zero, suc, ◌+◌, ◌-◌, ◌<◌, ◌≤◌, Bool, true, false, cond, List, [], ◌∷◌, ◌++◌, map, take, length, nat_eq, Option, Some, None, refl, sym, ap, ap₂, ◌∙◌, arith, slice_get, slice_set, slice_index, replicate, subst, is_some, unwrap_or, ◌||◌}
+use Rattle.base_lists.proofs.Common.{IsStrictlyIncreasing, eq-eqb, every_at, map_at, slice_get_none, slice_get_there, slice_index_is, length-numbers, numbers_is, same_number}
 use Rattle.base_lists.specs.Members.{is_among}
 use Rattle.base_lists.specs.Every.{Every}
 use Rattle.base_lists.specs.Places.{first_place, numbers}

@@ -7,7 +7,8 @@ use Rattle.wasm_valid.specs.Prelude.{IsValid}
 use Rattle.index_remap.specs.Prelude.{declared, fits_tree, renumbered_tree}
 use Rattle.module_limits.specs.Counts.{or_above, over_limit}
 use Rattle.split_spec.specs.declared.names.SplitNames.{SplitNames}
-use Rattle.split_spec.specs.Prelude.{moved_params, namespace_taken, prefix_taken, marks_from_primary, left_marks, primary_map, primary_tree, secondary_imports, secondary_map, secondary_tree, place_among}
+use Rattle.split_spec.specs.Prelude.{moved_params, namespace_taken, prefix_taken, marks_from_primary, left_marks, primary_map, primary_tree, secondary_imports, secondary_map, secondary_tree}
+use Rattle.split_spec.specs.Prelude.{place_among}
 use Rattle.split_slots.specs.declared.surveying.Survey.{Survey}
 use Rattle.split_slots.specs.declared.drafting.Draft.{Draft}
 use Rattle.split_slots.specs.declared.drafting.Drafts.{Drafts}

@@ -79,7 +79,18 @@ fn secondary_draft(
 ) -> Result<Draft, NoMemory>
     requires few { FewSlots calls.now }
     requires own { calls.now.base + length own ≤ 2 ^ 32 }
-    ensures tree { IfOk result (λ draft. draft.tree ≡ record { types = frame.types; imports = frame.imports; funcs = each (own_func calls.now) own; tables = []; mems = []; globals = []; exports = []; start = None; elems = spec.slot_segment calls.now.table 0 (numbers calls.now.base (length own)) ∷ []; datas = [] }) }
+    ensures tree { IfOk result (λ draft. draft.tree ≡ record {
+      types = frame.types;
+      imports = frame.imports;
+      funcs = each (own_func calls.now) own;
+      tables = [];
+      mems = [];
+      globals = [];
+      exports = [];
+      start = None;
+      elems = spec.slot_segment calls.now.table 0 (numbers calls.now.base (length own)) ∷ [];
+      datas = [];
+    }) }
     ensures map { IfOk result (λ draft. draft.map ≡ frame.map) }
 {
     let mut own = own;

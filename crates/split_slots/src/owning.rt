@@ -47,7 +47,19 @@ pub(crate) fn secondary_tree(
     base: u32,
 ) -> Result<Module, NoMemory>
     requires { base + length funcs ≤ 2 ^ 32 }
-    ensures { IfOk result (λ tree. tree ≡ record { types = types; imports = imports; funcs = funcs; tables = []; mems = []; globals = []; exports = []; start = None; elems = slot_segment table 0 (numbers base (length funcs)) ∷ []; datas = [] }) }
+    ensures { IfOk result (λ tree. tree ≡ record {
+      types = types;
+      imports = imports;
+      funcs = funcs;
+      tables = [];
+      mems = [];
+      globals = [];
+      exports = [];
+      start = None;
+      elems =
+          slot_segment table 0 (numbers base (length funcs)) ∷ [];
+      datas = [];
+    }) }
 {
     let mut elems = Items::new(alloc);
     elems.keep(slot_segment(alloc, table, base, funcs.len())?)?;

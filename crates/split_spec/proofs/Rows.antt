@@ -18,7 +18,8 @@ use Rattle.split_spec.specs.Needed.{needed}
 use Rattle.split_spec.specs.Prelude.{primary, HasSlots, secondary, namespace_taken, prefix_taken, moved_params, split_fault}
 use Rattle.split_spec.specs.Primary.{primary_with}
 use Rattle.split_spec.specs.Secondary.{secondary_with}
-use Rattle.split_spec.specs.Examples.{primary_word, placeholder_word, names, slots_word, empty, func, import, export, limits, table, segment, nothing, gives_number, number_to_number, takes_number, takes_two, slots_import, calling, calling_primary, calling_secondary, shared_word, numbered_placeholder}
+use Rattle.split_spec.specs.Examples.{primary_word, placeholder_word, names, slots_word, empty, func, import, export, limits, table, segment, nothing, gives_number, number_to_number, takes_number, takes_two, slots_import, calling, calling_primary, calling_secondary, shared_word}
+use Rattle.split_spec.specs.Examples.{numbered_placeholder}
 
 -- ---- a function that is exported ----
 

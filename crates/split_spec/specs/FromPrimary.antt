@@ -5,7 +5,8 @@ use Rattle.std.specs.Prelude.{ℕ, Bool, ◌&&◌, not, List, [], ◌++◌, ◌�
 use Rattle.base_lists.specs.Members.{is_among}
 use Rattle.std.specs.List.{filter_map, list_any}
 use Rattle.base_lists.specs.Places.{numbers, places}
-use Rattle.wasm_tree_spec.specs.Prelude.{Space, Types, Functions, Tables, Memories, Globals, ElementSegments, DataSegments, Operand, any_operand_passes, same_space, ImportDesc, ExportDesc, Import, Export, Func, Module, funcs_of, tables_of, memories_of, globals_of}
+use Rattle.wasm_tree_spec.specs.Prelude.{Space, Types, Functions, Tables, Memories, Globals, ElementSegments, DataSegments, Operand, any_operand_passes, same_space, ImportDesc, ExportDesc, Import}
+use Rattle.wasm_tree_spec.specs.Prelude.{Export, Func, Module, funcs_of, tables_of, memories_of, globals_of}
 use Rattle.wasm_tree.specs.declared.module.ImportDesc.TheVariants as im
 use Rattle.split_spec.specs.Slots.{defined_at}
 

@@ -1,5 +1,6 @@
 -- Names that are looked up one by one.
-use Rattle.base_lists.proofs.Common.{◌≡◌, ◌∙◌, ◌⊎◌, inl, inr, refl, sym, ap, ap₂, subst, zero, suc, arith, slice_get, Some, Contains, Bool, true, false, not, ◌&&◌, ◌||◌, ℕ, ◌+◌, ◌<◌, List, [], ◌∷◌, ◌++◌, map, take, drop, get_or, length, list_any, bytes_eq, map-append, take-append-drop, get_or_default, list_any-append, mapped_more, bytes_eq-Decides}
+use Rattle.base_lists.proofs.Common.{◌≡◌, ◌∙◌, ◌⊎◌, inl, inr, refl, sym, ap, ap₂, subst, zero, suc, arith, slice_get, Some, Contains, Bool, true, false, not, ◌&&◌, ◌||◌, ℕ, ◌+◌, ◌<◌, List, [], ◌∷◌, ◌++◌, map, take, drop, get_or, length, list_any, bytes_eq, map-append, take-append-drop}
+use Rattle.base_lists.proofs.Common.{get_or_default, list_any-append, mapped_more, bytes_eq-Decides}
 use Rattle.std.proofs.Common.{Bor}
 use Rattle.std.proofs.Math.Seq.{drop-cons}
 use Rattle.base_lists.proofs.Texts.{same_texts}

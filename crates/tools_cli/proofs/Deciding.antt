@@ -1,7 +1,9 @@
 -- From the inputs of a task to its job.
 use Rattle.base_lists.proofs.Common.{◌≡◌, ◌∙◌, sym, refl, ap, subst, Bool, true, false, cond, map, ℕ, zero, suc, ◌≤◌, List, [], ◌∷◌, ◌++◌, take, drop, length, arith, Contains, list_all}
 use Rattle.std.proofs.Common.{length-append}
-use Rattle.tools_cli.specs.Prelude.{Text, MetadceTask, SplitTask, CtorEvalTask, SampleTask, Task, Merge, Metadce, Split, CtorEval, Sample, many_of, modules_of, texts_of, inputs_of, Job, Usage, Refused, Done, Output, Decision, Refuses, Makes, not_linked, not_joined, merged, Reduces, no_graph, not_swept, reduced, Splits, no_plan, not_parted, parted, Evaluates, not_evaluated, evaluated, Samples, not_merged, sampled, Decides, is_within, spelled_output, job_of, AllLoad, OneFails, module_files, contents_of, InputsJob, not_loaded, decided, NamedFile, written_names, total, PrintsAsAllowed, input_entry, input_entries, input_texts}
+use Rattle.tools_cli.specs.Prelude.{Text, MetadceTask, SplitTask, CtorEvalTask, SampleTask, Task, Merge, Metadce, Split, CtorEval, Sample, many_of, modules_of, texts_of, inputs_of, Job, Usage, Refused, Done, Output, Decision, Refuses, Makes, not_linked, not_joined, merged, Reduces, no_graph}
+use Rattle.tools_cli.specs.Prelude.{not_swept, reduced, Splits, no_plan, not_parted, parted, Evaluates, not_evaluated, evaluated, Samples, not_merged, sampled, Decides, is_within, spelled_output, job_of, AllLoad, OneFails, module_files, contents_of, InputsJob, not_loaded, decided, NamedFile}
+use Rattle.tools_cli.specs.Prelude.{written_names, total, PrintsAsAllowed, input_entry, input_entries, input_texts}
 use Rattle.tools_cli.specs.CommandLine.{outputs_of}
 use Rattle.tools_cli.specs.Job.{Missing}
 use Rattle.wasm_tree_spec.specs.Prelude.{Module}

@@ -3,7 +3,9 @@ use Rattle.base_lists.proofs.Common.{Bool, true, false, cond, ltb, ◌-◌, ◌�
 use Rattle.std.proofs.Common.{length-append}
 use Rattle.wasm_bytes.specs.Prelude.{IsBytes}
 use Rattle.tool_io.specs.FilesAndSinks.{FileContents}
-use Rattle.tools_cli.specs.Prelude.{Text, Source, MergeTask, Task, Merge, Metadce, Split, CtorEval, Sample, task_of, source_files, many_of, modules_of, texts_of, inputs_of, NamedFile, fault_text, link_text, IsReadAs, IsAccepted, invalid, Job, Gathered, add_first, add_file, Whole, Lacks, TooLong, gathered, most_input, LoadsFile, loaded, faulty, AllLoad, OneFails, Decision, Merges, not_linked, not_joined, merged, parts_of, sample_merge, sample_modules, Decides, job_of, module_files, contents_of, InputsJob, not_loaded, decided, refused_before, TaskJob, not_begun, missing, too_long, all_read, HasJob, no_task, asked}
+use Rattle.tools_cli.specs.Prelude.{Text, Source, MergeTask, Task, Merge, Metadce, Split, CtorEval, Sample, task_of, source_files, many_of, modules_of, texts_of, inputs_of, NamedFile, fault_text, link_text, IsReadAs, IsAccepted, invalid, Job, Gathered, add_first, add_file, Whole, Lacks, TooLong}
+use Rattle.tools_cli.specs.Prelude.{gathered, most_input, LoadsFile, loaded, faulty, AllLoad, OneFails, Decision, Merges, not_linked, not_joined, merged, parts_of, sample_merge, sample_modules, Decides, job_of, module_files, contents_of, InputsJob, not_loaded, decided, refused_before, TaskJob}
+use Rattle.tools_cli.specs.Prelude.{not_begun, missing, too_long, all_read, HasJob, no_task, asked}
 use Rattle.tools_cli.specs.Texts.{invalid_text, import_mismatch, import_cycle, limits_clash, global_cycle, too_many_memories}
 use Rattle.tools_cli.specs.Job.{HoldBytes}
 use Rattle.wasm_tree_spec.specs.Prelude.{Module}

@@ -1,10 +1,14 @@
 -- A job that is done keeps what it read: its decision is sound, by the laws of its command, and what is written of a sound decision is kept, of any command.
-use Rattle.base_lists.proofs.Common.{IsTrue, Bool, true, false, not, cond, ltb, ◌≡◌, ◌∙◌, refl, sym, ap, subst, ℕ, zero, suc, ◌-◌, List, [], ◌∷◌, ◌++◌, append-nil, take, length, Option, Some, None, IfSome, IfOk, OnOk, Result, Ok, Err, ◌<◌, ◌≤◌, ◌^◌, arith, map, option_map, inl, inr, IsUtf8, ◌||◌, ◌&&◌, nat_lt, option_or, and_parts, nat_tests, get, list_all, list_any, cons_option, bytes_eq, is_eq-slice_cmp, map_twice}
+use Rattle.base_lists.proofs.Common.{IsTrue, Bool, true, false, not, cond, ltb, ◌≡◌, ◌∙◌, refl, sym, ap, subst, ℕ, zero, suc, ◌-◌, List, [], ◌∷◌, ◌++◌, append-nil, take, length, Option, Some, None, IfSome, IfOk, OnOk, Result, Ok, Err, ◌<◌, ◌≤◌, ◌^◌, arith, map, option_map, inl, inr, IsUtf8, ◌||◌}
+use Rattle.base_lists.proofs.Common.{◌&&◌, nat_lt, option_or, and_parts, nat_tests, get, list_all, list_any, cons_option, bytes_eq, is_eq-slice_cmp, map_twice}
 use Rattle.std.specs.FinMap.{insert, get-insert}
 use Rattle.std.specs.Cmp.{eq_by_cmp_equiv}
 use Rattle.std.proofs.lemmas.Cmp.{nat_list_cmp_total}
 use Rattle.tool_io.specs.FilesAndSinks.{FileContents}
-use Rattle.tools_cli.specs.Prelude.{Text, Source, MergeTask, MetadceTask, SplitTask, CtorEvalTask, SampleTask, Task, Merge, Metadce, Split, CtorEval, Sample, task_of, many_of, modules_of, texts_of, inputs_of, are_apart, NamedFile, made, IsReadAs, IsAccepted, Job, Usage, Refused, Done, Gathered, Whole, Lacks, TooLong, add_first, add_file, gathered, most_input, most_output, LoadsFile, loaded, faulty, invalid, AllLoad, Output, Decision, Refuses, Makes, Merges, not_linked, not_joined, merged, Reduces, no_graph, not_swept, reduced, words_plan, Splits, no_plan, not_parted, parted, Evaluates, not_evaluated, evaluated, Samples, not_merged, sampled, sample_merge, sample_parts, Decides, is_within, spelled_output, job_of, module_files, contents_of, parts_of, AreMerged, InputsJob, not_loaded, decided, TaskJob, not_begun, missing, too_long, all_read, HasJob, no_task, asked}
+use Rattle.tools_cli.specs.Prelude.{Text, Source, MergeTask, MetadceTask, SplitTask, CtorEvalTask, SampleTask, Task, Merge, Metadce, Split, CtorEval, Sample, task_of, many_of, modules_of, texts_of, inputs_of, are_apart, NamedFile, made, IsReadAs, IsAccepted, Job, Usage, Refused, Done, Gathered}
+use Rattle.tools_cli.specs.Prelude.{Whole, Lacks, TooLong, add_first, add_file, gathered, most_input, most_output, LoadsFile, loaded, faulty, invalid, AllLoad, Output, Decision, Refuses, Makes, Merges, not_linked, not_joined, merged, Reduces, no_graph, not_swept, reduced, words_plan, Splits}
+use Rattle.tools_cli.specs.Prelude.{no_plan, not_parted, parted, Evaluates, not_evaluated, evaluated, Samples, not_merged, sampled, sample_merge, sample_parts, Decides, is_within, spelled_output, job_of, module_files, contents_of, parts_of, AreMerged, InputsJob, not_loaded, decided, TaskJob}
+use Rattle.tools_cli.specs.Prelude.{not_begun, missing, too_long, all_read, HasJob, no_task, asked}
 use Rattle.merge_names.specs.declared.mode.Mode.{Mode}
 use Rattle.tools_cli.specs.Job.{Missing, GivesMarks}
 use Rattle.tools_cli.specs.Run.{EndsDone}
@@ -478,7 +482,8 @@ sample_is_sound k sample (tree ∷ trees) contents decision counted h = absurd h
 
 -- ---- all commands ----
 
-decision_is_sound : Respelled → (task : Task) (files : List NamedFile) (trees : List Module) (decision : Decision) → IsTextTask task → IsCounted task → ((bytes : Text) (more : List Text) → contents_of files ≡ bytes ∷ more → IsBytes bytes) → AllLoad (many_of task) (module_files task files) trees → Decides task trees (contents_of files) decision
+decision_is_sound : Respelled → (task : Task) (files : List NamedFile) (trees : List Module) (decision : Decision) → IsTextTask task → IsCounted task → ((bytes : Text) (more : List Text) → contents_of files ≡ bytes ∷ more → IsBytes bytes) → AllLoad (many_of task) (module_files task files) trees →
+    Decides task trees (contents_of files) decision
     → IsSoundDecision task trees (contents_of files) decision
 decision_is_sound k (Merge merge) files trees decision text counted are loads h = merge_is_sound k merge (contents_of files) (module_files (Merge merge) files) trees decision loads h
 decision_is_sound k (Metadce metadce) files trees decision text counted are loads h = metadce_is_sound k metadce files trees decision loads h
@@ -594,7 +599,8 @@ decision_keeps : Respelled → (task : Task) (before : FileContents) (files : Li
 decision_keeps k task before files trees (Refuses text) apart e loads sound = tt
 decision_keeps k task before files trees (Makes outputs lines) apart e loads sound = makes_keep k task before files trees outputs lines _ (list_all is_within outputs) apart e loads sound refl
 
-inputs_keep : Respelled → (task : Task) (before : FileContents) (files : List NamedFile) (job : Job) → IsTextTask task → IsCounted task → HoldBytesAt (inputs_of task) before → AreOutputsApart task → gathered (inputs_of task) before most_input ≡ Whole files → InputsJob task files job → JobKept task before job
+inputs_keep : Respelled → (task : Task) (before : FileContents) (files : List NamedFile) (job : Job) → IsTextTask task → IsCounted task → HoldBytesAt (inputs_of task) before → AreOutputsApart task → gathered (inputs_of task) before most_input ≡ Whole files → InputsJob task files job →
+    JobKept task before job
 inputs_keep k task before files job text_task counted are apart e (not_loaded text h) = tt
 inputs_keep k task before files job text_task counted are apart e (decided trees decision loads h) =
     let first = first_read before (inputs_of task) files (gathered_held before (inputs_of task) most_input files e) are in

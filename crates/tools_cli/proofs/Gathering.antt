@@ -1,5 +1,6 @@
 -- Files that are read in order.
-use Rattle.base_lists.proofs.Common.{◌≡◌, ◌∙◌, sym, refl, ap, subst, ℕ, zero, suc, ◌+◌, ◌-◌, ◌≤◌, ◌<◌, ltb, min, arith, List, [], ◌∷◌, ◌++◌, length, get_or, take, drop, map, append_assoc, add-one, Option, Some, None, option_map, Contains, IfSome, true, false, cond, take_all, drop_all, map-append, nat_tests}
+use Rattle.base_lists.proofs.Common.{◌≡◌, ◌∙◌, sym, refl, ap, subst, ℕ, zero, suc, ◌+◌, ◌-◌, ◌≤◌, ◌<◌, ltb, min, arith, List, [], ◌∷◌, ◌++◌, length, get_or, take, drop, map, append_assoc, add-one, Option, Some, None, option_map, Contains, IfSome, true, false, cond, take_all, drop_all, map-append}
+use Rattle.base_lists.proofs.Common.{nat_tests}
 use Rattle.std.proofs.Common.{Bor}
 use Rattle.std.proofs.lemmas.List.{length-take}
 use Rattle.tools_cli.proofs.Pieces.{append-nil}

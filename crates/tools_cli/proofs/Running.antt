@@ -2,7 +2,8 @@
 use Rattle.base_lists.proofs.Common.{◌≡◌, ◌∙◌, arith, sym, refl, ap, subst, ℕ, ◌≤◌, List, [], ◌∷◌, ◌++◌, length, map, drop, Option, Some, None, IfSome, Contains, OnOk, Result, Ok, Err, string_bytes, inl, inr, ◌⊎◌, get, map_twice}
 use Rattle.tool_io.specs.FilesAndSinks.{FileContents, Becomes, AppendsPrefix, Rose}
 use Rattle.tools_cli.proofs.Changes.{becomes_itself, becomes_weaker, becomes_same}
-use Rattle.tools_cli.specs.Prelude.{Text, Task, task_of, modules_of, texts_of, inputs_of, NamedFile, made, AreWrittenInPart, written_names, Job, Usage, Refused, Done, Whole, TooLong, gathered, most_input, InputsJob, TaskJob, refused_before, not_begun, too_long, all_read, HasJob, no_task, asked, refusal_text, StopsWith, PrintsAsAllowed, HostState, over_limit}
+use Rattle.tools_cli.specs.Prelude.{Text, Task, task_of, modules_of, texts_of, inputs_of, NamedFile, made, AreWrittenInPart, written_names, Job, Usage, Refused, Done, Whole, TooLong, gathered, most_input, InputsJob, TaskJob, refused_before, not_begun, too_long, all_read, HasJob, no_task, asked}
+use Rattle.tools_cli.specs.Prelude.{refusal_text, StopsWith, PrintsAsAllowed, HostState, over_limit}
 use Rattle.tools_cli.specs.CommandLine.{usage_line}
 use Rattle.tools_cli.specs.Stop.{IsLine, usage, fault_line, invalid_line, parts_line, link_line, join_line, graph_line, plan_line, split_line, eval_line, output_line, cannot_read_line, cannot_write_line, cannot_print_line, no_memory_line, no_memory, stop_line, line_of, Says, Reports}
 use Rattle.tools_cli.specs.Causes.{StopsGathering, StopsPreparing, StopsFinishing, MayHold, AreOutputs, AllWritten, PrintsAfter}

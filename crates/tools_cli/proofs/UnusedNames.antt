@@ -187,7 +187,8 @@ pub names_with : (ks : List (Bor Text)) (k : Bor Text) → names_of (insert_key 
 names_with [] k = refl
 names_with (x ∷ ks) k = by (slice_cmp nat_cmp k.now x.now) (names_with ks k)
   where
-    by : (o : Ordering) → names_of (insert_key (λ x y. slice_cmp nat_cmp x.now y.now) ks k) ≡ with_name (names_of ks) k.now → names_of (match_ordering o (k ∷ x ∷ ks) (x ∷ ks) (x ∷ insert_key (λ x y. slice_cmp nat_cmp x.now y.now) ks k)) ≡ match_ordering o (k.now ∷ x.now ∷ names_of ks) (x.now ∷ names_of ks) (x.now ∷ with_name (names_of ks) k.now)
+    by : (o : Ordering) → names_of (insert_key (λ x y. slice_cmp nat_cmp x.now y.now) ks k) ≡ with_name (names_of ks) k.now →
+        names_of (match_ordering o (k ∷ x ∷ ks) (x ∷ ks) (x ∷ insert_key (λ x y. slice_cmp nat_cmp x.now y.now) ks k)) ≡ match_ordering o (k.now ∷ x.now ∷ names_of ks) (x.now ∷ names_of ks) (x.now ∷ with_name (names_of ks) k.now)
     by Less rest = refl
     by Equal rest = refl
     by Greater rest = ap (λ (l : List Text). x.now ∷ l) rest

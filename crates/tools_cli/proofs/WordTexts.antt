@@ -1,14 +1,17 @@
 -- What is so of each task: its names are UTF-8 where the words that ask for it are, no two of its outputs have one name, and a sample has functions, not too many.
-use Rattle.base_lists.proofs.Common.{◌≡◌, ◌∙◌, refl, ap, subst, Bool, true, false, cond, ℕ, suc, ◌+◌, ◌<◌, ◌≤◌, List, [], ◌∷◌, ◌++◌, drop, length, get_or, add-one, Option, Some, None, IfSome, option_map, option_and_then, map, string_bytes, arith, ◌==◌, IsUtf8, codes, nat_lt, IsAscii, and_parts, IsAscii-cons, IsAscii-nil, option_or, list_any, list_all, nat_tests, IsUtf8-from_ascii}
+use Rattle.base_lists.proofs.Common.{◌≡◌, ◌∙◌, refl, ap, subst, Bool, true, false, cond, ℕ, suc, ◌+◌, ◌<◌, ◌≤◌, List, [], ◌∷◌, ◌++◌, drop, length, get_or, add-one, Option, Some, None, IfSome, option_map, option_and_then, map, string_bytes, arith, ◌==◌, IsUtf8, codes, nat_lt, IsAscii, and_parts}
+use Rattle.base_lists.proofs.Common.{IsAscii-cons, IsAscii-nil, option_or, list_any, list_all, nat_tests, IsUtf8-from_ascii}
 use Rattle.std.specs.Prelude.{bytes_eq, unwrap_or}
 use Rattle.std.specs.declared.string.String.{String}
 use Rattle.std.proofs.lemmas.Str.{IsUtf8-drop, IsUtf8-string_bytes, IsCharBoundary-after_ascii}
 use Rattle.base_lists.specs.Every.{Every}
 use Rattle.split_spec.specs.declared.names.SplitNames.{SplitNames}
 use Rattle.tools_cli.specs.declared.split.SplitWords.{SplitWords}
-use Rattle.tools_cli_words.specs.Arguments.{Text, Vocabulary, Argument, Value, Flag, Plain, is_plain, behind, long_name, takes_value, own_value, some_value, value_behind, joined_value, other_word, next_argument, add_argument, said_from, OptionValue, Arguments, add_to_arguments, arguments_of, value_of, with_value, valued_options, in_order, are_apart, options_and_flags, said_once, values_of, at_most_one, only_value, value_or}
+use Rattle.tools_cli_words.specs.Arguments.{Text, Vocabulary, Argument, Value, Flag, Plain, is_plain, behind, long_name, takes_value, own_value, some_value, value_behind, joined_value, other_word, next_argument, add_argument, said_from, OptionValue, Arguments, add_to_arguments, arguments_of}
+use Rattle.tools_cli_words.specs.Arguments.{value_of, with_value, valued_options, in_order, are_apart, options_and_flags, said_once, values_of, at_most_one, only_value, value_or}
 use Rattle.tools_cli.specs.Prelude.{Task, Merge, Metadce, Split, CtorEval, Sample, Source, MergeTask, MetadceTask, SplitTask, CtorEvalTask, SampleTask}
-use Rattle.tools_cli.specs.CommandLine.{SplitOutputs, make_ctor_eval, ctor_eval_of_arguments, ctor_eval_of, ctor_eval_vocabulary, make_merge, make_metadce, make_outputs, make_names, make_split, make_sample, names_said, outputs_said, words_said, count_in, merge_of_arguments, metadce_of_arguments, split_of_arguments, sample_of_arguments, merge_of, metadce_of, split_of, sample_of, merge_vocabulary, metadce_vocabulary, split_vocabulary, sample_vocabulary, task_of}
+use Rattle.tools_cli.specs.CommandLine.{SplitOutputs, make_ctor_eval, ctor_eval_of_arguments, ctor_eval_of, ctor_eval_vocabulary, make_merge, make_metadce, make_outputs, make_names, make_split, make_sample, names_said, outputs_said, words_said, count_in, merge_of_arguments, metadce_of_arguments}
+use Rattle.tools_cli.specs.CommandLine.{split_of_arguments, sample_of_arguments, merge_of, metadce_of, split_of, sample_of, merge_vocabulary, metadce_vocabulary, split_vocabulary, sample_vocabulary, task_of}
 use Rattle.merge_names.specs.declared.mode.Mode.{Mode}
 use Rattle.tools_cli.proofs.NumberTexts.{in_range}
 
@@ -309,12 +312,14 @@ any_names (Some names) = tt
 split_unlike : (said : List Argument) → Unit {0} → IfSome (split_of_arguments (in_order split_vocabulary (arguments_of said))) WritesUnlike
 split_unlike said h =
     let arguments = in_order split_vocabulary (arguments_of said) in
-    made_split WritesUnlike AreUnlike (λ n. Unit {0}) (λ split outputs names. outputs) _ (outputs_said arguments) (words_said arguments) (names_said arguments) (unlike_made (only_value (codes "--primary-output") arguments) (only_value (codes "--secondary-output") arguments)) (any_names (names_said arguments))
+    made_split WritesUnlike AreUnlike (λ n. Unit {0}) (λ split outputs names. outputs) _ (outputs_said arguments) (words_said arguments) (names_said arguments) (unlike_made (only_value (codes "--primary-output") arguments) (only_value (codes "--secondary-output") arguments))
+    (any_names (names_said arguments))
 
 words_unlike : (words : List Text) → IfSome (task_of words) WritesUnlike
 words_unlike [] = no_words WritesUnlike
 words_unlike (word ∷ rest) =
-    from_words WritesUnlike (λ merge. tt) (λ metadce. tt) (λ eval. tt) word rest (from_said WritesUnlike (λ said. Unit {0}) split_vocabulary (said_from split_vocabulary None rest) split_of_arguments split_unlike (any_said (said_from split_vocabulary None rest))) (any_sample WritesUnlike (λ sample. tt) rest)
+    from_words WritesUnlike (λ merge. tt) (λ metadce. tt) (λ eval. tt) word rest (from_said WritesUnlike (λ said. Unit {0}) split_vocabulary (said_from split_vocabulary None rest) split_of_arguments split_unlike (any_said (said_from split_vocabulary None rest)))
+    (any_sample WritesUnlike (λ sample. tt) rest)
 
 pub task_writes_unlike : (words : List Text) (task : Task) → task_of words ≡ Some task → WritesUnlike task
 task_writes_unlike words task e = let P : Option Task → Type 0 = λ o. IfSome o WritesUnlike in subst P e (words_unlike words)

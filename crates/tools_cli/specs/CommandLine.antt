@@ -139,7 +139,8 @@ words_said arguments = make_words (value_if_any (codes "--split-funcs") argument
 -- The names that a split adds. Each of the three options may be absent and has a default.
 abbrev pub names_said : Arguments → Option SplitNames
 names_said arguments =
-    make_names (value_or (codes "--import-namespace") (codes "primary") arguments) (value_or (codes "--placeholder-namespace") (codes "placeholder") arguments) (value_or (codes "--export-prefix") (codes "%") arguments)
+    make_names (value_or (codes "--import-namespace") (codes "primary") arguments) (value_or (codes "--placeholder-namespace") (codes "placeholder") arguments)
+    (value_or (codes "--export-prefix") (codes "%") arguments)
 
 abbrev pub make_split : Option Text → Option SplitOutputs → Option SplitWords → Option SplitNames → Option Task
 make_split (Some file) (Some outputs) (Some words) (Some names) = Some (Split (record { file = file; outputs = outputs; words = words; names = names }))
@@ -169,7 +170,8 @@ make_ctor_eval _ _ _ _ = None
 -- are required; names to keep may be absent.
 abbrev pub ctor_eval_of_arguments : Arguments → Option Task
 ctor_eval_of_arguments arguments =
-    make_ctor_eval (only_text arguments.plain) (option_and_then words_apart (only_value (codes "--ctors") arguments)) (value_if_any (codes "--kept-exports") arguments) (only_value (output_option) arguments)
+    make_ctor_eval (only_text arguments.plain) (option_and_then words_apart (only_value (codes "--ctors") arguments)) (value_if_any (codes "--kept-exports") arguments)
+    (only_value (output_option) arguments)
 
 -- ---- sample ----
 
@@ -188,7 +190,8 @@ make_sample _ _ _ _ = None
 -- positional arguments.
 abbrev pub sample_of_arguments : Arguments → Option Task
 sample_of_arguments arguments =
-    make_sample arguments.plain (option_and_then seed_in (only_value (codes "--seed") arguments)) (option_and_then count_in (only_value (codes "--count") arguments)) (value_if_any (output_option) arguments)
+    make_sample arguments.plain (option_and_then seed_in (only_value (codes "--seed") arguments)) (option_and_then count_in (only_value (codes "--count") arguments))
+    (value_if_any (output_option) arguments)
 
 -- ---- all commands ----
 

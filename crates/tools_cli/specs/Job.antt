@@ -4,7 +4,8 @@ use Rattle.std.specs.FinMap.{get}
 use Rattle.std.specs.List.{list_all, cons_option}
 use Rattle.tool_io.specs.FilesAndSinks.{FileContents}
 use Rattle.wasm_bytes.specs.Prelude.{IsBytes}
-use Rattle.tools_cli.specs.CommandLine.{Text, Source, MergeTask, MetadceTask, SplitTask, CtorEvalTask, SampleTask, Task, Merge, Metadce, Split, CtorEval, Sample, task_of, source_files, many_of, modules_of, inputs_of}
+use Rattle.tools_cli.specs.CommandLine.{Text, Source, MergeTask, MetadceTask, SplitTask, CtorEvalTask, SampleTask, Task, Merge, Metadce, Split, CtorEval, Sample, task_of, source_files, many_of}
+use Rattle.tools_cli.specs.CommandLine.{modules_of, inputs_of}
 use Rattle.wasm_meaning.specs.Prelude.{Part}
 use Rattle.dce_graph.specs.declared.graph.Graph.{Graph}
 use Rattle.dce_graph.specs.declared.marks.Reached.{Reached}
@@ -141,10 +142,13 @@ AreMerged many parts mode tree = (link_fault parts many ≡ None) × Joins parts
 -- What a merge of these modules decides: the parts do not link; they cannot be joined; or the
 -- output is the merged module, without lines.
 pub data Merges (merge : MergeTask) (trees : List Module) : Decision → Type 0 where
-  not_linked : (fault : LinkFault) (text : Text) → link_fault (parts_of merge.sources trees) (many_of (Merge merge)) ≡ Some fault → link_text (source_files merge) fault ≡ Some text → Merges merge trees (Refuses text)
-  not_joined : (fault : JoinFault) (text : Text) → link_fault (parts_of merge.sources trees) (many_of (Merge merge)) ≡ None → Joins (parts_of merge.sources trees) merge.mode (Err fault) → join_text fault ≡ Some text
+  not_linked : (fault : LinkFault) (text : Text) → link_fault (parts_of merge.sources trees) (many_of (Merge merge)) ≡ Some fault → link_text (source_files merge) fault ≡ Some text →
+      Merges merge trees (Refuses text)
+  not_joined : (fault : JoinFault) (text : Text) → link_fault (parts_of merge.sources trees) (many_of (Merge merge)) ≡ None → Joins (parts_of merge.sources trees) merge.mode (Err fault) →
+      join_text fault ≡ Some text
       → Merges merge trees (Refuses text)
-  merged : (tree : Module) → AreMerged (many_of (Merge merge)) (parts_of merge.sources trees) merge.mode tree → Merges merge trees (Makes (record { name = merge.output; tree = tree; custom = [] } ∷ []) [])
+  merged : (tree : Module) → AreMerged (many_of (Merge merge)) (parts_of merge.sources trees) merge.mode tree →
+      Merges merge trees (Makes (record { name = merge.output; tree = tree; custom = [] } ∷ []) [])
 
 -- `text` encodes this graph, and the marks are on exactly what is reached in this module through
 -- it.
@@ -157,7 +161,8 @@ pub record GivesMarks (text : Text) (tree : Module) (graph : Graph) (marks : Rea
 -- name of a node that is not reached.
 pub data Reduces (metadce : MetadceTask) (tree : Module) (text : Text) : Decision → Type 0 where
   no_graph : (fault : GraphFault) (says : Text) → graph_result text ≡ Err fault → graph_text metadce.graph_file fault ≡ Some says → Reduces metadce tree text (Refuses says)
-  not_swept : (graph : Graph) (marks : Reached) (fault : SweepFault) (says : Text) → GivesMarks text tree graph marks → Sweeps (marks_of marks) tree (Err fault) → sweep_text fault ≡ Some says → Reduces metadce tree text (Refuses says)
+  not_swept : (graph : Graph) (marks : Reached) (fault : SweepFault) (says : Text) → GivesMarks text tree graph marks → Sweeps (marks_of marks) tree (Err fault) → sweep_text fault ≡ Some says →
+      Reduces metadce tree text (Refuses says)
   reduced : (graph : Graph) (marks : Reached) (left : Module) (unused : List Text) → GivesMarks text tree graph marks → Sweeps (marks_of marks) tree (Ok left) → AreUnused graph tree unused
       → Reduces metadce tree text (Makes (record { name = metadce.output; tree = left; custom = [] } ∷ []) (unused_lines unused))
 
@@ -185,8 +190,10 @@ both_modules split tree moved =
 -- fault; the module cannot be split; or the outputs are both modules, with a line for each function
 -- that was to move and is kept.
 pub data Splits (split : SplitTask) (tree : Module) (bytes : Text) : Decision → Type 0 where
-  no_plan : (names : List FuncName) (fault : PlanFault) (says : Text) → AreFunctionNames bytes names → words_fault split tree names ≡ Some fault → plan_text fault ≡ Some says → Splits split tree bytes (Refuses says)
-  not_parted : (names : List FuncName) (fault : SplitFault) (says : Text) → GivesPlan split bytes tree names → split_fault split.names tree (words_plan split tree names).moved ≡ Some fault → split_text split.file fault ≡ Some says
+  no_plan : (names : List FuncName) (fault : PlanFault) (says : Text) → AreFunctionNames bytes names → words_fault split tree names ≡ Some fault → plan_text fault ≡ Some says →
+      Splits split tree bytes (Refuses says)
+  not_parted : (names : List FuncName) (fault : SplitFault) (says : Text) → GivesPlan split bytes tree names → split_fault split.names tree (words_plan split tree names).moved ≡ Some fault →
+      split_text split.file fault ≡ Some says
       → Splits split tree bytes (Refuses says)
   parted : (names : List FuncName) → GivesPlan split bytes tree names → split_fault split.names tree (words_plan split tree names).moved ≡ None
       → Splits split tree bytes (Makes (both_modules split tree (words_plan split tree names).moved) (kept_lines tree names (words_plan split tree names).kept))
@@ -270,7 +277,8 @@ contents_of files = map (λ file. file.1) files
 -- decides.
 pub data InputsJob (task : Task) (files : List NamedFile) : Job → Type 0 where
   not_loaded : (text : Text) → OneFails (many_of task) (module_files task files) text → InputsJob task files (Refused text)
-  decided : (trees : List Module) (decision : Decision) → AllLoad (many_of task) (module_files task files) trees → Decides task trees (contents_of files) decision → InputsJob task files (job_of decision)
+  decided : (trees : List Module) (decision : Decision) → AllLoad (many_of task) (module_files task files) trees → Decides task trees (contents_of files) decision →
+      InputsJob task files (job_of decision)
 
 -- The job of a task: it may be refused at once; otherwise its files are read in order, and then it
 -- has a job over them.

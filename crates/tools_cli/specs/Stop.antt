@@ -2,14 +2,18 @@
 use Rattle.std.specs.Prelude.{◌≡◌, ◌⊎◌, ℕ, ◌++◌, List, Option, Some, codes, string_bytes}
 use Rattle.tool_io.specs.FilesAndSinks.{Becomes, Rose, AppendsPrefix}
 use Rattle.tools_cli.specs.CommandLine.{Text, usage_line}
-use Rattle.tools_cli.specs.Texts.{fault_text, invalid_text, link_text, join_text, import_mismatch, import_cycle, limits_clash, global_cycle, too_many_memories, export_conflict, not_module, malformed, malformed_body, unsupported, unsupported_body, over_limit, too_many_parts, too_many, not_json, wrong_shape, node_twice, unknown_node, graph_text, no_function, several_functions, kept_and_split, namespace_taken, prefix_taken, plan_text, split_text, no_exported_function, eval_text}
+use Rattle.tools_cli.specs.Texts.{fault_text, invalid_text, link_text, join_text, import_mismatch, import_cycle, limits_clash, global_cycle, too_many_memories, export_conflict, not_module, malformed}
+use Rattle.tools_cli.specs.Texts.{malformed_body, unsupported, unsupported_body, over_limit, too_many_parts, too_many, not_json, wrong_shape, node_twice, unknown_node, graph_text, no_function}
+use Rattle.tools_cli.specs.Texts.{several_functions, kept_and_split, namespace_taken, prefix_taken, plan_text, split_text, no_exported_function, eval_text}
 use Rattle.wasm_tree_spec.specs.Prelude.{Which}
 use Rattle.wasm_read_spec.specs.declared.fault.ReadFault.{ReadFault}
 use Rattle.wasm_valid.specs.declared.kinds.Invalid as first
 use Rattle.tools_cli.specs.declared.stop.Status.{Status}
 use Rattle.tools_cli.specs.declared.stop.Status.TheVariants as status
 use Rattle.tools_cli.specs.declared.refusal.Refusal.{Refusal}
-use Rattle.tools_cli.specs.declared.refusal.Refusal.TheVariants.{NotModule, Malformed, MalformedBody, Unsupported, UnsupportedBody, Limit, Invalid, TooManyParts, ImportMismatch, ImportCycle, LimitsClash, TooManyMemories, GlobalCycle, ExportConflict, TooMany, GraphText, GraphShape, NodeTwice, UnknownNode, NoSuchFunction, AmbiguousFunction, KeptAndSplit, NamespaceTaken, PrefixTaken, NoSuchExport}
+use Rattle.tools_cli.specs.declared.refusal.Refusal.TheVariants.{NotModule, Malformed, MalformedBody, Unsupported, UnsupportedBody, Limit, Invalid, TooManyParts, ImportMismatch, ImportCycle}
+use Rattle.tools_cli.specs.declared.refusal.Refusal.TheVariants.{LimitsClash, TooManyMemories, GlobalCycle, ExportConflict, TooMany, GraphText, GraphShape, NodeTwice, UnknownNode, NoSuchFunction}
+use Rattle.tools_cli.specs.declared.refusal.Refusal.TheVariants.{AmbiguousFunction, KeptAndSplit, NamespaceTaken, PrefixTaken, NoSuchExport}
 use Rattle.dce_graph.specs.declared.fault.GraphFault.{GraphFault}
 use Rattle.split_plan.specs.declared.fault.PlanFault.{PlanFault}
 use Rattle.split_spec.specs.declared.faults.SplitFault.{SplitFault}

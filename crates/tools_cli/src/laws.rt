@@ -63,7 +63,8 @@ pub fn command_lines_have_jobs()
 /// that were read, and is observationally equivalent to the original of its command. Premises: the
 /// files that are read hold bytes, and the arguments of a split are UTF-8.
 pub fn done_jobs_are_faithful()
-    ensures faithful { (words : List (List ℕ)) (before : FileContents) (writes : List NamedFile) (lines : List ℕ) → SplitWordsAreText words → ReadsBytes words before → HasJob words before (Done writes lines) → IsFaithful words before (made writes before) }
+    ensures faithful { (words : List (List ℕ)) (before : FileContents) (writes : List NamedFile) (lines : List ℕ) → SplitWordsAreText words → ReadsBytes words before →
+        HasJob words before (Done writes lines) → IsFaithful words before (made writes before) }
 {
     canonical_encoding_encodes();
     trees_that_fit_have_small_sizes();

@@ -76,7 +76,8 @@ fn both_outputs(
     lines: Vec<u8>,
 ) -> Result<Decision, NoMemory>
     ensures { IfOk result (λ decision. decision_value decision ≡ Makes
-        (record { name = (split_value task.now).outputs.secondary; tree = pair.secondary; custom = [] } ∷ record { name = (split_value task.now).outputs.primary; tree = pair.primary; custom = [] } ∷ [])
+        (record { name = (split_value task.now).outputs.secondary; tree = pair.secondary; custom = [] } ∷ record { name = (split_value task.now).outputs.primary; tree = pair.primary; custom = [] } ∷
+        [])
         lines.items) }
 {
     let Pair { primary, secondary } = pair;

@@ -41,7 +41,8 @@ pub fn run<F: Files, O: Sink, E: Sink>(
     ensures says { Becomes (E.bytes err.old) (E.bytes err.new) Says }
 
     // Each status has its cause.
-    ensures done { result ≡ Status.Done → IfSome (F.contents files.old) (λ a. EndsDone (map string_bytes words.now) a (F.contents files.new) (O.bytes out.old) (O.bytes out.new)) × IsSame (E.bytes err.old) (E.bytes err.new) }
+    ensures done { result ≡ Status.Done → IfSome (F.contents files.old) (λ a. EndsDone (map string_bytes words.now) a (F.contents files.new) (O.bytes out.old) (O.bytes out.new)) ×
+        IsSame (E.bytes err.old) (E.bytes err.new) }
     // The headline. If the status is `Done` and the contents of the files before are known, each
     // output name now has an encoding of a valid module. This module is what the command makes of
     // what it read, and what was written is observationally equivalent to its original:
@@ -57,8 +58,10 @@ pub fn run<F: Files, O: Sink, E: Sink>(
     // instantiated one after the other; the secondary module of a split always loads; the
     // evaluation of a ctor-eval is the machine's run.
     ensures faithful { result ≡ Status.Done → IfSome (F.contents files.old) (λ a. EndsFaithful (map string_bytes words.now) a (F.contents files.new)) }
-    ensures refused { result ≡ Status.Refused → IfSome (F.contents files.old) (λ a. EndsRefused (map string_bytes words.now) a (E.bytes err.old) (E.bytes err.new)) × IsSame (F.contents files.old) (F.contents files.new) × IsSame (O.bytes out.old) (O.bytes out.new) }
-    ensures usage { result ≡ Status.Usage → (task_of (map string_bytes words.now) ≡ None) × Gains (usage_line (map string_bytes words.now)) (E.bytes err.old) (E.bytes err.new) × IsSame (F.contents files.old) (F.contents files.new) × IsSame (O.bytes out.old) (O.bytes out.new) }
+    ensures refused { result ≡ Status.Refused → IfSome (F.contents files.old) (λ a. EndsRefused (map string_bytes words.now) a (E.bytes err.old) (E.bytes err.new)) ×
+        IsSame (F.contents files.old) (F.contents files.new) × IsSame (O.bytes out.old) (O.bytes out.new) }
+    ensures usage { result ≡ Status.Usage → (task_of (map string_bytes words.now) ≡ None) × Gains (usage_line (map string_bytes words.now)) (E.bytes err.old) (E.bytes err.new) ×
+        IsSame (F.contents files.old) (F.contents files.new) × IsSame (O.bytes out.old) (O.bytes out.new) }
     ensures outside { result ≡ Status.Outside → HasOutsideCause (map string_bytes words.now)
         (record { files = F.contents files.old; reads = F.read_faults files.old; writes = F.write_faults files.old; out = O.bytes out.old; out_faults = O.faults out.old })
         (record { files = F.contents files.new; reads = F.read_faults files.new; writes = F.write_faults files.new; out = O.bytes out.new; out_faults = O.faults out.new })

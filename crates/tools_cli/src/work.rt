@@ -104,7 +104,8 @@ fn finish<'a, F: Files, O: Sink>(files: &mut F, out: &mut O, plan: Plan) -> Resu
     ensures reads { NoneFell (F.read_faults files.old) (F.read_faults files.new) }
     ensures writes { NoneFell (F.write_faults files.old) (F.write_faults files.new) }
     ensures later { O.faults out.old ≤ O.faults out.new }
-    ensures stops { IfErr result (StopsFinishing (F.write_faults files.old) (F.write_faults files.new) (O.faults out.old) (O.faults out.new) (F.contents files.old) (F.contents files.new) (write_entries plan.writes.items)) }
+    ensures stops { IfErr result (StopsFinishing (F.write_faults files.old) (F.write_faults files.new) (O.faults out.old) (O.faults out.new) (F.contents files.old) (F.contents files.new)
+        (write_entries plan.writes.items)) }
 {
     let Plan { writes, lines } = plan;
     write_outputs(files, writes)?;

@@ -7,11 +7,14 @@ use Rattle.wasm_tree_spec.specs.Prelude.{ConstExpr, ElemSeg, ElemMode, DataSeg, 
 use Rattle.wasm_tree.specs.declared.module.ElemMode.TheVariants as elem
 use Rattle.wasm_tree.specs.declared.module.DataMode.TheVariants as data'
 use Rattle.wasm_num.specs.Operations.{W32}
-use Rattle.wasm_meaning.specs.Prelude.{Outcome, Gives, Traps, IllTyped, copies, overwrite, Val, Inst, Func, Code, Own, Placeholder, Memory, Store, Level, Frame, Entry, Running, Mark, Opening, Waiting, Ended, Growing, Change, Keep, SetGlobal, SetMemory, SetTable, DropElem, DropData, Act, Goes, Calls, AsksGrow, Ends, Next, Ran, CallsOwn, WaitsGrowth, CallsPlaceholder, EndsCall, num_of, pop_typed, type_at, act, changed, enter, give, give_levels, perform, step, Bytes, Filled, PlacedSegment, copy_bytes, copy_slots, global_with, joined_stores, new_func, or_trapped, run_data_with, run_elem_with, segments_in, store_with}
+use Rattle.wasm_meaning.specs.Prelude.{Outcome, Gives, Traps, IllTyped, copies, overwrite, Val, Inst, Func, Code, Own, Placeholder, Memory, Store, Level, Frame, Entry, Running, Mark, Opening, Waiting, Ended, Growing, Change, Keep, SetGlobal, SetMemory, SetTable, DropElem, DropData, Act, Goes, Calls}
+use Rattle.wasm_meaning.specs.Prelude.{AsksGrow, Ends, Next, Ran, CallsOwn, WaitsGrowth, CallsPlaceholder, EndsCall, num_of, pop_typed, type_at, act, changed, enter, give, give_levels, perform, step, Bytes, Filled, PlacedSegment, copy_bytes, copy_slots, global_with, joined_stores, new_func}
+use Rattle.wasm_meaning.specs.Prelude.{or_trapped, run_data_with, run_elem_with, segments_in, store_with}
 use Rattle.wasm_meaning.specs.World.{elem_with as elems_with}
 use Rattle.wasm_meaning.proofs.Outcomes.{AllOf, ill_typed, just, with_found, with_is}
 use Rattle.eval_spec.specs.declared.stop.Stop.TheVariants as why
-use Rattle.eval_spec.specs.Prelude.{State, Stage, Going, Stopped, Finished, Test, first_held, stopped_or, frame_turns, host_tests, tests, written_after, after_steps, call_end, came_to, host_call, host_opened_if_there, quiet_step, spent, weight, called_in_order, evaluated_within, after_start, data_tests, elem_tests, filled_from, imported_store, in_order, instantiated, own_inst, place_in, state_at_first, value_in, with_data, with_data_mode, with_elem, with_elem_mode, with_segments, memory_bytes}
+use Rattle.eval_spec.specs.Prelude.{State, Stage, Going, Stopped, Finished, Test, first_held, stopped_or, frame_turns, host_tests, tests, written_after, after_steps, call_end, came_to, host_call, host_opened_if_there, quiet_step, spent, weight, called_in_order, evaluated_within, after_start}
+use Rattle.eval_spec.specs.Prelude.{data_tests, elem_tests, filled_from, imported_store, in_order, instantiated, own_inst, place_in, state_at_first, value_in, with_data, with_data_mode, with_elem, with_elem_mode, with_segments, memory_bytes}
 
 abbrev Has : ℕ → Store → Type 0
 Has n s = length s.mems ≡ n

@@ -32,13 +32,15 @@ TreesAreSingle = (m : Module) (names kept : List Text) → first_missing m names
 
 -- It is bounded if the original is valid and bounded and none of its own counts is above its limit.
 abbrev pub TreesAreBounded : Type 0
-TreesAreBounded = (m : Module) (names kept : List Text) → first_missing m names ≡ None → IsValid m → IsBounded m → over_limit (evaluated_tree m names kept) ≡ None → IsBounded (evaluated_tree m names kept)
+TreesAreBounded = (m : Module) (names kept : List Text) → first_missing m names ≡ None → IsValid m → IsBounded m → over_limit (evaluated_tree m names kept) ≡ None →
+    IsBounded (evaluated_tree m names kept)
 
 -- For a valid module whose data segments hold bytes and whose tables have fewer than 2 ^ 32 slots,
 -- the module after the evaluation is observationally equivalent to the module after its evaluated
 -- constructors, step by step, in each environment that links the module.
 abbrev pub TreesBehave : Type 0
-TreesBehave = (m : Module) (names kept : List Text) → first_missing m names ≡ None → IsValid m → BeginsInRange m → ObservationallyEquivalent m (take (evaluated_count m names) names) kept (evaluated_tree m names kept)
+TreesBehave = (m : Module) (names kept : List Text) → first_missing m names ≡ None → IsValid m → BeginsInRange m →
+    ObservationallyEquivalent m (take (evaluated_count m names) names) kept (evaluated_tree m names kept)
 
 -- The evaluation of these constructors comes to its end and is the machine's run: in each
 -- environment that links the module, the instantiation, the start and the calls come to their ends

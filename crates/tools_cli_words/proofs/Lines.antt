@@ -1,5 +1,6 @@
 -- Words that are read one by one.
-use Rattle.base_lists.proofs.Common.{nat_tests, ◌&&◌, ◌||◌, ◌==◌, is_none, is_some, option_to_list, list_any, ◌≡◌, ◌∙◌, refl, sym, ap, ap₂, ◌++◌, ℕ, suc, ◌+◌, ◌<◌, arith, add-one, map, drop, drop-cons, length, get_or, Bool, true, false, cond, List, [], ◌∷◌, append_assoc, append-nil, Option, Some, None, option_map, option_and_then, Bor, nat_list_eq_equiv}
+use Rattle.base_lists.proofs.Common.{nat_tests, ◌&&◌, ◌||◌, ◌==◌, is_none, is_some, option_to_list, list_any, ◌≡◌, ◌∙◌, refl, sym, ap, ap₂, ◌++◌, ℕ, suc, ◌+◌, ◌<◌, arith, add-one, map, drop, drop-cons, length, get_or, Bool, true, false, cond, List, [], ◌∷◌, append_assoc, append-nil, Option, Some}
+use Rattle.base_lists.proofs.Common.{None, option_map, option_and_then, Bor, nat_list_eq_equiv}
 use Rattle.std.specs.Prelude.{unwrap_or, bytes_eq}
 use Rattle.std.specs.Option.{option_flatten}
 use Rattle.tools_cli_words.specs.Arguments.{Text, Vocabulary, Argument, Value, Flag, Plain, OptionValue, Arguments, behind, long_name, takes_value, next_argument, add_argument, said_from, arguments_of, values_of, only_text, at_most_one}

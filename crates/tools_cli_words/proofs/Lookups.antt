@@ -1,5 +1,6 @@
 -- What the rows of arranged words say of each option and flag, and of the plain words.
-use Rattle.base_lists.proofs.Common.{◌≡◌, ◌∙◌, refl, sym, ap, ap₂, subst, ℕ, ◌<◌, ◌^◌, Bool, true, false, cond, List, [], ◌∷◌, ◌++◌, map, length, Option, Some, None, option_map, option_and_then, codes, fold, inl, inr, ◌||◌, ◌&&◌, slice_get, list_any, option_or, bytes_eq, nat_list_eq_equiv, bytes_eq-Decides}
+use Rattle.base_lists.proofs.Common.{◌≡◌, ◌∙◌, refl, sym, ap, ap₂, subst, ℕ, ◌<◌, ◌^◌, Bool, true, false, cond, List, [], ◌∷◌, ◌++◌, map, length, Option, Some, None, option_map, option_and_then, codes, fold, inl, inr, ◌||◌, ◌&&◌, slice_get, list_any, option_or, bytes_eq, nat_list_eq_equiv}
+use Rattle.base_lists.proofs.Common.{bytes_eq-Decides}
 use Rattle.std.specs.Prelude.{unwrap_or}
 use Rattle.base_lists.specs.Every.{Every}
 use Rattle.clap.specs.Words.{Row, Rule, Shape, built, fault_of, matches_of, rows_of, first_value, one_text, raw_values, matched_of}

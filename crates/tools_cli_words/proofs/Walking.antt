@@ -1,5 +1,6 @@
 -- What `clap` makes of arranged words: uses of options and flags, and then plain words.
-use Rattle.base_lists.proofs.Common.{◌≡◌, ◌∙◌, refl, sym, ap, ap₂, subst, ℕ, ◌<◌, ◌≤◌, ◌^◌, arith, Bool, true, false, cond, List, [], ◌∷◌, ◌++◌, map, length, append_assoc, append-nil, Option, Some, None, option_map, codes, fold, ◌||◌, ◌&&◌, ◌==◌, not, nat_lt, list_all, list_any, option_map_or, option_or, bytes_eq, nat_tests, left_true, right_true}
+use Rattle.base_lists.proofs.Common.{◌≡◌, ◌∙◌, refl, sym, ap, ap₂, subst, ℕ, ◌<◌, ◌≤◌, ◌^◌, arith, Bool, true, false, cond, List, [], ◌∷◌, ◌++◌, map, length, append_assoc, append-nil, Option, Some, None, option_map, codes, fold, ◌||◌, ◌&&◌, ◌==◌, not, nat_lt, list_all, list_any, option_map_or}
+use Rattle.base_lists.proofs.Common.{option_or, bytes_eq, nat_tests, left_true, right_true}
 use Rattle.base_lists.specs.Every.{Every}
 use Rattle.clap.specs.Words.{App, Row, Rule, Shape, built, fault_of, matches_of}
 use Rattle.clap.specs.Walk.{Walk, Held, walked, walk, walk_from, nothing_held, has_row, with_default, settled, finished, settled_rows, used_by_id, arg_by_id, more_values, used, rows_after, is_empty}

@@ -84,7 +84,8 @@ abbrev pub said_from : Vocabulary → (due : Option Text) → List Text → Opti
 said_from vocabulary None [] = Some []
 said_from vocabulary (Some option) [] = None
 said_from vocabulary (Some option) (word ∷ rest) = add_argument (next_argument vocabulary (Some option) word) (said_from vocabulary None rest)
-said_from vocabulary None (word ∷ rest) = if takes_value vocabulary.options word then said_from vocabulary (Some (long_name word)) rest else add_argument (next_argument vocabulary None word) (said_from vocabulary None rest)
+said_from vocabulary None (word ∷ rest) = if takes_value vocabulary.options word then said_from vocabulary (Some (long_name word)) rest else add_argument (next_argument vocabulary None word)
+    (said_from vocabulary None rest)
 
 -- An option and its value.
 pub record OptionValue : Type 0 where

@@ -75,7 +75,8 @@ pub(crate) fn said_by<'a>(
     flags: &[&str],
     words: &'a [String],
 ) -> Result<Option<Said<'a>>, NoMemory>
-    ensures { IfOk result (λ said. option_map said_value said ≡ option_map arguments_of (said_from (record { options = names_of options.now; flags = names_of flags.now }) None (map string_bytes words.now))) }
+    ensures { IfOk result (λ said. option_map said_value said ≡
+        option_map arguments_of (said_from (record { options = names_of options.now; flags = names_of flags.now }) None (map string_bytes words.now))) }
 {
     let mut said = Said::new(alloc);
     let mut due = None;

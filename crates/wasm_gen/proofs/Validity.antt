@@ -1,5 +1,6 @@
 -- Both modules of a sample are valid, and their parts are counted by a u32.
-use Rattle.base_lists.proofs.Common.{◌≡◌, ◌∙◌, ap, sym, refl, subst, ℕ, zero, suc, ◌+◌, ◌-◌, ◌*◌, ◌%◌, ◌^◌, ◌<◌, ◌≤◌, List, [], ◌∷◌, ◌++◌, map, length, take, replicate, Contains, true, Option, Some, None, option_map, slice_get, decimal, arith, filter_map, cons_option, decimal_injective, append_cancel_left, length-append, length-map, length-replicate, map-append, slice_get-get_or, append_at_left, map_at, map_from, map_twice, replicate_at, slice_get_there, length-numbers, numbers_at, numbers_is, numbers_append}
+use Rattle.base_lists.proofs.Common.{◌≡◌, ◌∙◌, ap, sym, refl, subst, ℕ, zero, suc, ◌+◌, ◌-◌, ◌*◌, ◌%◌, ◌^◌, ◌<◌, ◌≤◌, List, [], ◌∷◌, ◌++◌, map, length, take, replicate, Contains, true, Option, Some, None, option_map, slice_get, decimal, arith, filter_map, cons_option, decimal_injective}
+use Rattle.base_lists.proofs.Common.{append_cancel_left, length-append, length-map, length-replicate, map-append, slice_get-get_or, append_at_left, map_at, map_from, map_twice, replicate_at, slice_get_there, length-numbers, numbers_at, numbers_is, numbers_append}
 use Rattle.std.proofs.Math.Seq.{take-append_seam}
 use Rattle.base_lists.specs.Options.{◌>>=◌}
 use Rattle.base_lists.specs.Places.{numbers}

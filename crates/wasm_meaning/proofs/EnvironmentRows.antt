@@ -60,7 +60,8 @@ a_mutable_global_of_a_number : is_environment (offers_global true valt.I64 (Numb
 a_mutable_global_of_a_number = refl
 
 -- one pair may offer all kinds
-all_kinds_under_one_pair : is_environment (record (offers_nothing g) { funcs = to_i32 ∷ (nothing ∷ []); table = Some (funcs_in (within 1 1) (Null ∷ [])); memory = Some (pages_of_zeros (within 0 0) 0); global = Some (record { ty = record { ty = i32; mutable = true }; value = Number 4294967295 }) } ∷ []) ≡ true
+all_kinds_under_one_pair : is_environment (record (offers_nothing g) { funcs = to_i32 ∷ (nothing ∷ []); table = Some (funcs_in (within 1 1) (Null ∷ [])); memory = Some (pages_of_zeros (within 0 0) 0); global = Some (record { ty = record { ty = i32; mutable = true }; value = Number 4294967295 }) } ∷
+    []) ≡ true
 all_kinds_under_one_pair = refl
 
 -- ---- memories of several pages ----

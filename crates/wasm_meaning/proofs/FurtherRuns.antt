@@ -17,7 +17,8 @@ use Rattle.wasm_tree.specs.declared.module.ConstExpr.TheVariants as const
 use Rattle.wasm_tree.specs.declared.module.ElemMode.TheVariants as elem
 use Rattle.wasm_tree.specs.declared.module.DataMode.TheVariants as data'
 use Rattle.wasm_num.specs.Operations.{wrapped, un_from, un_to, un_value, bin_from, bin_to, bin_value}
-use Rattle.wasm_meaning.specs.Prelude.{copies, Text, Pair, Part, Entity, Environment, Number, Null, OwnFunc, ExternNumber, Function, World, Event, Move, Linked, LinkFault, InstanceTrapped, Returned, Trapped, Asked, GrowAsked, Got, Done, BadMove, Call, Invoke, Take, Answer, Refuse, Grant, Deny, Get, Size, Set, Extend, TableOf, MemoryOf, GlobalOf, Named, events}
+use Rattle.wasm_meaning.specs.Prelude.{copies, Text, Pair, Part, Entity, Environment, Number, Null, OwnFunc, ExternNumber, Function, World, Event, Move, Linked, LinkFault, InstanceTrapped, Returned, Trapped, Asked, GrowAsked, Got, Done, BadMove, Call, Invoke, Take, Answer, Refuse, Grant, Deny, Get}
+use Rattle.wasm_meaning.specs.Prelude.{Size, Set, Extend, TableOf, MemoryOf, GlobalOf, Named, events}
 use Rattle.wasm_meaning.specs.Access.{load_to, load_width, loaded, store_from, stored}
 use Rattle.wasm_meaning.proofs.SmallRuns.{f, g, a, b, e, m, i32, to_i32, nothing, empty, code, num, gives, page, alone, plain, own, importing, calling, giver, returns}
 use Rattle.wasm_meaning.proofs.MoreRuns.{i64, by, typed}
@@ -187,7 +188,8 @@ unfolding out-Instr denote.Hole.Carrier.out wrapped un_from un_to un_value bin_f
 a_segment_that_passes_the_end_writes_nothing = refl
 
 -- part b's element segment comes before part a's data segments, of which the second traps
-all_elements_come_before_data : events (a_and_b (record (gives (num 5 ∷ [])) { imports = its_memory ∷ []; datas = writes 0 7 ∷ (writes 65536 7 ∷ []) }) (putting (puts 0 ∷ []))) all_kinds (Get (TableOf its) 0 ∷ (Get (MemoryOf its) 0 ∷ [])) 25 ≡ InstanceTrapped ∷ (Got (Function 0) ∷ (Got (Number 7) ∷ []))
+all_elements_come_before_data : events (a_and_b (record (gives (num 5 ∷ [])) { imports = its_memory ∷ []; datas = writes 0 7 ∷ (writes 65536 7 ∷ []) }) (putting (puts 0 ∷ []))) all_kinds (Get (TableOf its) 0 ∷ (Get (MemoryOf its) 0 ∷ [])) 25 ≡ InstanceTrapped ∷
+    (Got (Function 0) ∷ (Got (Number 7) ∷ []))
 unfolding out-Instr denote.Hole.Carrier.out wrapped un_from un_to un_value bin_from bin_to bin_value load_to load_width loaded store_from stored
 all_elements_come_before_data = refl
 
@@ -302,12 +304,14 @@ a_shown_function_after_a_trap = refl
 -- ---- while a start waits ----
 
 -- the view is not there before the start has ended
-no_view_while_a_start_waits : events waiting all_kinds (Call f [] ∷ (Take f ∷ (Get (Named m) 0 ∷ (Size (Named m) ∷ (Set (Named m) 0 (Number 1) ∷ (Extend (Named m) 1 ∷ (Answer [] ∷ (Call f [] ∷ (Get (Named m) 0 ∷ []))))))))) 25 ≡ Asked its nothing [] ∷ four_bad (BadMove ∷ (BadMove ∷ (Linked ∷ (Returned (Number 5 ∷ []) ∷ (Got (Number 0) ∷ [])))))
+no_view_while_a_start_waits : events waiting all_kinds (Call f [] ∷ (Take f ∷ (Get (Named m) 0 ∷ (Size (Named m) ∷ (Set (Named m) 0 (Number 1) ∷ (Extend (Named m) 1 ∷ (Answer [] ∷ (Call f [] ∷ (Get (Named m) 0 ∷ []))))))))) 25 ≡ Asked its nothing [] ∷
+    four_bad (BadMove ∷ (BadMove ∷ (Linked ∷ (Returned (Number 5 ∷ []) ∷ (Got (Number 0) ∷ [])))))
 unfolding out-Instr denote.Hole.Carrier.out wrapped un_from un_to un_value bin_from bin_to bin_value load_to load_width loaded store_from stored
 no_view_while_a_start_waits = refl
 
 -- the environment's own entities are
-own_entities_while_a_start_waits : events waiting all_kinds (Get (GlobalOf its) 0 ∷ (Set (GlobalOf its) 0 (Number 9) ∷ (Get (GlobalOf its) 0 ∷ (Size (MemoryOf its) ∷ (Set (MemoryOf its) 0 (Number 7) ∷ (Get (MemoryOf its) 0 ∷ (Extend (TableOf its) 1 ∷ (Size (TableOf its) ∷ (Answer [] ∷ []))))))))) 25 ≡ Asked its nothing [] ∷ (Got (Number 3) ∷ (Done ∷ (Got (Number 9) ∷ (Got (Number 1) ∷ (Done ∷ (Got (Number 7) ∷ (Done ∷ (Got (Number 3) ∷ (Linked ∷ [])))))))))
+own_entities_while_a_start_waits : events waiting all_kinds (Get (GlobalOf its) 0 ∷ (Set (GlobalOf its) 0 (Number 9) ∷ (Get (GlobalOf its) 0 ∷ (Size (MemoryOf its) ∷ (Set (MemoryOf its) 0 (Number 7) ∷ (Get (MemoryOf its) 0 ∷ (Extend (TableOf its) 1 ∷ (Size (TableOf its) ∷ (Answer [] ∷ [])))))))))
+    25 ≡ Asked its nothing [] ∷ (Got (Number 3) ∷ (Done ∷ (Got (Number 9) ∷ (Got (Number 1) ∷ (Done ∷ (Got (Number 7) ∷ (Done ∷ (Got (Number 3) ∷ (Linked ∷ [])))))))))
 unfolding out-Instr denote.Hole.Carrier.out wrapped un_from un_to un_value bin_from bin_to bin_value load_to load_width loaded store_from stored
 own_entities_while_a_start_waits = refl
 
@@ -333,17 +337,20 @@ abbrev growing : World
 growing = alone (page (gives (num 1 ∷ (i.MemoryGrow 0 ∷ []))))
 
 -- no other move is taken before it is granted
-only_a_grant_is_taken : events growing all_kinds (Take f ∷ (Call f [] ∷ (Call f [] ∷ (Invoke 0 [] ∷ (Take f ∷ (Answer (Number 1 ∷ []) ∷ (Answer [] ∷ (Refuse ∷ (Get (Named m) 0 ∷ (Size (Named m) ∷ (Grant ∷ (Size (Named m) ∷ [])))))))))))) 25 ≡ Linked ∷ (Got (Function 0) ∷ (GrowAsked Memories 1 1 ∷ four_bad (four_bad (Returned (Number 1 ∷ []) ∷ (Got (Number 2) ∷ [])))))
+only_a_grant_is_taken : events growing all_kinds (Take f ∷ (Call f [] ∷ (Call f [] ∷ (Invoke 0 [] ∷ (Take f ∷ (Answer (Number 1 ∷ []) ∷ (Answer [] ∷ (Refuse ∷ (Get (Named m) 0 ∷ (Size (Named m) ∷ (Grant ∷ (Size (Named m) ∷ [])))))))))))) 25 ≡ Linked ∷
+    (Got (Function 0) ∷ (GrowAsked Memories 1 1 ∷ four_bad (four_bad (Returned (Number 1 ∷ []) ∷ (Got (Number 2) ∷ [])))))
 unfolding out-Instr denote.Hole.Carrier.out wrapped un_from un_to un_value bin_from bin_to bin_value load_to load_width loaded store_from stored
 only_a_grant_is_taken = refl
 
 -- nor one on what is the environment's own
-no_own_entity_while_a_growth_waits : events growing all_kinds (Call f [] ∷ (Get (GlobalOf its) 0 ∷ (Size (MemoryOf its) ∷ (Set (GlobalOf its) 0 (Number 9) ∷ (Extend (TableOf its) 1 ∷ (Deny ∷ (Get (GlobalOf its) 0 ∷ (Size (TableOf its) ∷ [])))))))) 25 ≡ Linked ∷ (GrowAsked Memories 1 1 ∷ four_bad (Returned (Number 4294967295 ∷ []) ∷ (Got (Number 3) ∷ (Got (Number 2) ∷ []))))
+no_own_entity_while_a_growth_waits : events growing all_kinds (Call f [] ∷ (Get (GlobalOf its) 0 ∷ (Size (MemoryOf its) ∷ (Set (GlobalOf its) 0 (Number 9) ∷ (Extend (TableOf its) 1 ∷ (Deny ∷ (Get (GlobalOf its) 0 ∷ (Size (TableOf its) ∷ [])))))))) 25 ≡ Linked ∷
+    (GrowAsked Memories 1 1 ∷ four_bad (Returned (Number 4294967295 ∷ []) ∷ (Got (Number 3) ∷ (Got (Number 2) ∷ []))))
 unfolding out-Instr denote.Hole.Carrier.out wrapped un_from un_to un_value bin_from bin_to bin_value load_to load_width loaded store_from stored
 no_own_entity_while_a_growth_waits = refl
 
 -- a call that waits is not answered while a growth in another call waits
-no_answer_while_a_growth_waits : events (named 1 2 (page (record empty { imports = offered (im.Func 0) ∷ []; funcs = code 0 (i.Call 0 ∷ []) ∷ (code 0 (num 1 ∷ (i.MemoryGrow 0 ∷ [])) ∷ []) }))) all_kinds (Call f [] ∷ (Call g [] ∷ (Answer (Number 4 ∷ []) ∷ (Grant ∷ (Answer (Number 4 ∷ []) ∷ []))))) 25 ≡ Linked ∷ (Asked its to_i32 [] ∷ (GrowAsked Memories 1 1 ∷ (BadMove ∷ (Returned (Number 1 ∷ []) ∷ (Returned (Number 4 ∷ []) ∷ [])))))
+no_answer_while_a_growth_waits : events (named 1 2 (page (record empty { imports = offered (im.Func 0) ∷ []; funcs = code 0 (i.Call 0 ∷ []) ∷ (code 0 (num 1 ∷ (i.MemoryGrow 0 ∷ [])) ∷ []) }))) all_kinds (Call f [] ∷ (Call g [] ∷ (Answer (Number 4 ∷ []) ∷ (Grant ∷ (Answer (Number 4 ∷ []) ∷ [])))))
+    25 ≡ Linked ∷ (Asked its to_i32 [] ∷ (GrowAsked Memories 1 1 ∷ (BadMove ∷ (Returned (Number 1 ∷ []) ∷ (Returned (Number 4 ∷ []) ∷ [])))))
 unfolding out-Instr denote.Hole.Carrier.out wrapped un_from un_to un_value bin_from bin_to bin_value load_to load_width loaded store_from stored
 no_answer_while_a_growth_waits = refl
 
@@ -378,17 +385,20 @@ open_to_all = record {
 }
 
 -- a table is read, set and extended by its name
-a_table_of_the_view : events open_to_all [] (Get (Named a) 0 ∷ (Take f ∷ (Set (Named a) 0 (Function 0) ∷ (Get (Named a) 0 ∷ (Extend (Named a) 1 ∷ (Size (Named a) ∷ (Get (Named a) 1 ∷ (Extend (Named a) 1 ∷ (Get (Named a) 2 ∷ []))))))))) 25 ≡ Linked ∷ (Got Null ∷ (Got (Function 0) ∷ (Done ∷ (Got (Function 0) ∷ (Done ∷ (Got (Number 2) ∷ (Got Null ∷ (BadMove ∷ (BadMove ∷ [])))))))))
+a_table_of_the_view : events open_to_all [] (Get (Named a) 0 ∷ (Take f ∷ (Set (Named a) 0 (Function 0) ∷ (Get (Named a) 0 ∷ (Extend (Named a) 1 ∷ (Size (Named a) ∷ (Get (Named a) 1 ∷ (Extend (Named a) 1 ∷ (Get (Named a) 2 ∷ []))))))))) 25 ≡ Linked ∷
+    (Got Null ∷ (Got (Function 0) ∷ (Done ∷ (Got (Function 0) ∷ (Done ∷ (Got (Number 2) ∷ (Got Null ∷ (BadMove ∷ (BadMove ∷ [])))))))))
 unfolding out-Instr denote.Hole.Carrier.out wrapped un_from un_to un_value bin_from bin_to bin_value load_to load_width loaded store_from stored
 a_table_of_the_view = refl
 
 -- so is a memory
-a_memory_of_the_view : events open_to_all [] (Set (Named m) 65535 (Number 7) ∷ (Get (Named m) 65535 ∷ (Get (Named m) 65536 ∷ (Extend (Named m) 1 ∷ (Size (Named m) ∷ (Get (Named m) 65536 ∷ (Extend (Named m) 1 ∷ []))))))) 25 ≡ Linked ∷ (Done ∷ (Got (Number 7) ∷ (BadMove ∷ (Done ∷ (Got (Number 2) ∷ (Got (Number 0) ∷ (BadMove ∷ [])))))))
+a_memory_of_the_view : events open_to_all [] (Set (Named m) 65535 (Number 7) ∷ (Get (Named m) 65535 ∷ (Get (Named m) 65536 ∷ (Extend (Named m) 1 ∷ (Size (Named m) ∷ (Get (Named m) 65536 ∷ (Extend (Named m) 1 ∷ []))))))) 25 ≡ Linked ∷
+    (Done ∷ (Got (Number 7) ∷ (BadMove ∷ (Done ∷ (Got (Number 2) ∷ (Got (Number 0) ∷ (BadMove ∷ [])))))))
 unfolding out-Instr denote.Hole.Carrier.out wrapped un_from un_to un_value bin_from bin_to bin_value load_to load_width loaded store_from stored
 a_memory_of_the_view = refl
 
 -- a global is set where it is mutable, to a number of its type
-a_global_of_the_view : events open_to_all [] (Set (Named g) 0 (Number 18446744073709551615) ∷ (Get (Named g) 0 ∷ (Set (Named g) 0 (Number 18446744073709551616) ∷ (Set (Named b) 0 (Number 1) ∷ (Get (Named b) 0 ∷ (Size (Named b) ∷ [])))))) 25 ≡ Linked ∷ (Done ∷ (Got (Number 18446744073709551615) ∷ (BadMove ∷ (BadMove ∷ (Got (Number 4) ∷ (Got (Number 1) ∷ []))))))
+a_global_of_the_view : events open_to_all [] (Set (Named g) 0 (Number 18446744073709551615) ∷ (Get (Named g) 0 ∷ (Set (Named g) 0 (Number 18446744073709551616) ∷ (Set (Named b) 0 (Number 1) ∷ (Get (Named b) 0 ∷ (Size (Named b) ∷ [])))))) 25 ≡ Linked ∷
+    (Done ∷ (Got (Number 18446744073709551615) ∷ (BadMove ∷ (BadMove ∷ (Got (Number 4) ∷ (Got (Number 1) ∷ []))))))
 unfolding out-Instr denote.Hole.Carrier.out wrapped un_from un_to un_value bin_from bin_to bin_value load_to load_width loaded store_from stored
 a_global_of_the_view = refl
 
@@ -409,17 +419,24 @@ unfolding out-Instr denote.Hole.Carrier.out wrapped un_from un_to un_value bin_f
 numbers_stay_over_a_trap = refl
 
 -- one that was shown in a call that is refused keeps its number too
-a_number_from_a_refused_call : events (named 1 1 (record empty { types = nothing ∷ (takes_ref ∷ []); imports = offered (im.Func 1) ∷ []; funcs = code 0 (i.RefFunc 2 ∷ (i.Call 0 ∷ [])) ∷ (code 0 [] ∷ []); exports = record { name = g; desc = ex.Func 2 } ∷ [] })) all_kinds (Call f [] ∷ (Refuse ∷ (Take f ∷ (Invoke 0 [] ∷ [])))) 25 ≡ Linked ∷ (Asked its takes_ref (Function 0 ∷ []) ∷ (Trapped ∷ (Got (Function 1) ∷ (Returned [] ∷ []))))
+a_number_from_a_refused_call : events (named 1 1 (record empty { types = nothing ∷ (takes_ref ∷ []); imports = offered (im.Func 1) ∷ []; funcs = code 0 (i.RefFunc 2 ∷ (i.Call 0 ∷ [])) ∷ (code 0 [] ∷ []); exports = record { name = g; desc = ex.Func 2 } ∷ [] })) all_kinds
+    (Call f [] ∷ (Refuse ∷ (Take f ∷ (Invoke 0 [] ∷ [])))) 25 ≡ Linked ∷ (Asked its takes_ref (Function 0 ∷ []) ∷ (Trapped ∷ (Got (Function 1) ∷ (Returned [] ∷ []))))
 unfolding out-Instr denote.Hole.Carrier.out wrapped un_from un_to un_value bin_from bin_to bin_value load_to load_width loaded store_from stored
 a_number_from_a_refused_call = refl
 
 -- a function that is shown twice in one list has one number; null is shown as null
-one_number_for_one_function : events (plain (record (typed (record { params = []; results = valt.Ref reft.Func ∷ (valt.Ref reft.Func ∷ (valt.Ref reft.Func ∷ [])) }) (i.RefFunc 0 ∷ (i.RefNull reft.Func ∷ (i.RefFunc 0 ∷ [])))) { exports = record { name = f; desc = ex.Func 0 } ∷ [] })) [] (Call f [] ∷ []) 25 ≡ returns (Function 0 ∷ (Null ∷ (Function 0 ∷ [])))
+one_number_for_one_function : events (plain (record (typed (record { params = []; results = valt.Ref reft.Func ∷ (valt.Ref reft.Func ∷ (valt.Ref reft.Func ∷ [])) }) (i.RefFunc 0 ∷ (i.RefNull reft.Func ∷ (i.RefFunc 0 ∷ [])))) { exports = record { name = f; desc = ex.Func 0 } ∷ [] })) []
+    (Call f [] ∷ []) 25 ≡ returns (Function 0 ∷ (Null ∷ (Function 0 ∷ [])))
 unfolding out-Instr denote.Hole.Carrier.out wrapped un_from un_to un_value bin_from bin_to bin_value load_to load_width loaded store_from stored
 one_number_for_one_function = refl
 
 -- the values of a list are numbered from left to right
-numbers_come_from_left_to_right : events (named 0 1 (record empty { types = record { params = []; results = valt.Ref reft.Func ∷ (valt.Ref reft.Func ∷ []) } ∷ []; funcs = code 0 (i.RefFunc 1 ∷ (i.RefFunc 0 ∷ [])) ∷ (code 0 (i.Unreachable ∷ []) ∷ []); exports = record { name = f; desc = ex.Func 0 } ∷ (record { name = g; desc = ex.Func 1 } ∷ []) })) [] (Call f [] ∷ (Take f ∷ (Take g ∷ []))) 25 ≡ Linked ∷ (Returned (Function 0 ∷ (Function 1 ∷ [])) ∷ (Got (Function 1) ∷ (Got (Function 0) ∷ [])))
+numbers_come_from_left_to_right : events (named 0 1 (record empty {
+  types = record { params = []; results = valt.Ref reft.Func ∷ (valt.Ref reft.Func ∷ []) } ∷ [];
+  funcs = code 0 (i.RefFunc 1 ∷ (i.RefFunc 0 ∷ [])) ∷ (code 0 (i.Unreachable ∷ []) ∷ []);
+  exports =
+      record { name = f; desc = ex.Func 0 } ∷ (record { name = g; desc = ex.Func 1 } ∷ []);
+})) [] (Call f [] ∷ (Take f ∷ (Take g ∷ []))) 25 ≡ Linked ∷ (Returned (Function 0 ∷ (Function 1 ∷ [])) ∷ (Got (Function 1) ∷ (Got (Function 0) ∷ [])))
 unfolding out-Instr denote.Hole.Carrier.out wrapped un_from un_to un_value bin_from bin_to bin_value load_to load_width loaded store_from stored
 numbers_come_from_left_to_right = refl
 
@@ -434,12 +451,14 @@ unfolding out-Instr denote.Hole.Carrier.out wrapped un_from un_to un_value bin_f
 a_function_in_a_table = refl
 
 -- an own function is a result by its names and its type
-an_own_function_as_a_result : events (named 1 1 (record empty { types = to_i32 ∷ (record { params = []; results = valt.Ref reft.Func ∷ [] } ∷ []); imports = offered (im.Func 0) ∷ []; funcs = code 1 (i.RefFunc 0 ∷ []) ∷ []; exports = record { name = g; desc = ex.Func 0 } ∷ [] })) all_kinds (Call f [] ∷ []) 25 ≡ returns (OwnFunc its to_i32 ∷ [])
+an_own_function_as_a_result : events (named 1 1 (record empty { types = to_i32 ∷ (record { params = []; results = valt.Ref reft.Func ∷ [] } ∷ []); imports = offered (im.Func 0) ∷ []; funcs = code 1 (i.RefFunc 0 ∷ []) ∷ []; exports = record { name = g; desc = ex.Func 0 } ∷ [] })) all_kinds
+    (Call f [] ∷ []) 25 ≡ returns (OwnFunc its to_i32 ∷ [])
 unfolding out-Instr denote.Hole.Carrier.out wrapped un_from un_to un_value bin_from bin_to bin_value load_to load_width loaded store_from stored
 an_own_function_as_a_result = refl
 
 -- and an argument, and takes no number
-an_own_function_as_an_argument : events (named 1 1 (record empty { types = nothing ∷ (takes_ref ∷ []); imports = offered (im.Func 1) ∷ []; funcs = code 0 (i.RefFunc 0 ∷ (i.Call 0 ∷ [])) ∷ []; exports = record { name = g; desc = ex.Func 0 } ∷ [] })) all_kinds (Call f [] ∷ (Answer [] ∷ (Take f ∷ []))) 25 ≡ Linked ∷ (Asked its takes_ref (OwnFunc its takes_ref ∷ []) ∷ (Returned [] ∷ (Got (Function 0) ∷ [])))
+an_own_function_as_an_argument : events (named 1 1 (record empty { types = nothing ∷ (takes_ref ∷ []); imports = offered (im.Func 1) ∷ []; funcs = code 0 (i.RefFunc 0 ∷ (i.Call 0 ∷ [])) ∷ []; exports = record { name = g; desc = ex.Func 0 } ∷ [] })) all_kinds
+    (Call f [] ∷ (Answer [] ∷ (Take f ∷ []))) 25 ≡ Linked ∷ (Asked its takes_ref (OwnFunc its takes_ref ∷ []) ∷ (Returned [] ∷ (Got (Function 0) ∷ [])))
 unfolding out-Instr denote.Hole.Carrier.out wrapped un_from un_to un_value bin_from bin_to bin_value load_to load_width loaded store_from stored
 an_own_function_as_an_argument = refl
 
@@ -461,7 +480,8 @@ unfolding out-Instr denote.Hole.Carrier.out wrapped un_from un_to un_value bin_f
 memory_grow_to_the_greatest_size = refl
 
 -- without a maximum growth to 4,294,967,295 entries is asked for
-table_grow_to_the_greatest_size : events (plain (record (gives (i.RefNull reft.Func ∷ (i.I32Const (negsuc 3) ∷ (i.TableGrow 0 ∷ [])))) { tables = record { ty = reft.Func; limits = record { min = 3; max = None } } ∷ [] })) [] (Call f [] ∷ (Deny ∷ [])) 25 ≡ Linked ∷ (GrowAsked Tables 3 4294967292 ∷ (Returned (Number 4294967295 ∷ []) ∷ []))
+table_grow_to_the_greatest_size : events (plain (record (gives (i.RefNull reft.Func ∷ (i.I32Const (negsuc 3) ∷ (i.TableGrow 0 ∷ [])))) { tables = record { ty = reft.Func; limits = record { min = 3; max = None } } ∷ [] })) [] (Call f [] ∷ (Deny ∷ [])) 25 ≡ Linked ∷
+    (GrowAsked Tables 3 4294967292 ∷ (Returned (Number 4294967295 ∷ []) ∷ []))
 unfolding out-Instr denote.Hole.Carrier.out wrapped un_from un_to un_value bin_from bin_to bin_value load_to load_width loaded store_from stored
 table_grow_to_the_greatest_size = refl
 
@@ -470,7 +490,8 @@ abbrev growing_its_memory : World
 growing_its_memory = plain (record empty { imports = its_memory ∷ []; funcs = code 1 (i.LocalGet 0 ∷ (i.MemoryGrow 0 ∷ [])) ∷ [] })
 
 -- the environment's maximum counts, which the import does not name
-an_imported_memory_grows_to_its_own_maximum : events growing_its_memory all_kinds (Call f (Number 2 ∷ []) ∷ (Call f (Number 1 ∷ []) ∷ (Grant ∷ (Size (MemoryOf its) ∷ (Call f (Number 1 ∷ []) ∷ []))))) 40 ≡ Linked ∷ (Returned (Number 4294967295 ∷ []) ∷ (GrowAsked Memories 1 1 ∷ (Returned (Number 1 ∷ []) ∷ (Got (Number 2) ∷ (Returned (Number 4294967295 ∷ []) ∷ [])))))
+an_imported_memory_grows_to_its_own_maximum : events growing_its_memory all_kinds (Call f (Number 2 ∷ []) ∷ (Call f (Number 1 ∷ []) ∷ (Grant ∷ (Size (MemoryOf its) ∷ (Call f (Number 1 ∷ []) ∷ []))))) 40 ≡ Linked ∷
+    (Returned (Number 4294967295 ∷ []) ∷ (GrowAsked Memories 1 1 ∷ (Returned (Number 1 ∷ []) ∷ (Got (Number 2) ∷ (Returned (Number 4294967295 ∷ []) ∷ [])))))
 unfolding out-Instr denote.Hole.Carrier.out wrapped un_from un_to un_value bin_from bin_to bin_value load_to load_width loaded store_from stored
 an_imported_memory_grows_to_its_own_maximum = refl
 
@@ -482,17 +503,20 @@ an_imported_memory_that_was_extended = refl
 -- ---- imports of one pair ----
 
 -- two memories of one pair are one
-a_memory_imported_twice : events (plain (record (gives (num 0 ∷ (num 9 ∷ (i.Store store.I32Store8 (by 0) ∷ (num 0 ∷ (i.Load load.I32Load8U (record { align = 0; offset = 0; memory = 1 }) ∷ [])))))) { imports = its_memory ∷ (its_memory ∷ []) })) all_kinds (Call f [] ∷ (Get (MemoryOf its) 0 ∷ [])) 25 ≡ Linked ∷ (Returned (Number 9 ∷ []) ∷ (Got (Number 9) ∷ []))
+a_memory_imported_twice : events (plain (record (gives (num 0 ∷ (num 9 ∷ (i.Store store.I32Store8 (by 0) ∷ (num 0 ∷ (i.Load load.I32Load8U (record { align = 0; offset = 0; memory = 1 }) ∷ [])))))) { imports = its_memory ∷ (its_memory ∷ []) })) all_kinds (Call f [] ∷ (Get (MemoryOf its) 0 ∷ [])) 25
+    ≡ Linked ∷ (Returned (Number 9 ∷ []) ∷ (Got (Number 9) ∷ []))
 unfolding out-Instr denote.Hole.Carrier.out wrapped un_from un_to un_value bin_from bin_to bin_value load_to load_width loaded store_from stored
 a_memory_imported_twice = refl
 
 -- those of two parts are as well
-a_memory_imported_by_two_parts : events (a_and_b (record (gives (num 1 ∷ [])) { imports = its_memory ∷ []; datas = writes 4 7 ∷ [] }) (record (gives (num 4 ∷ (i.Load load.I32Load8U (by 0) ∷ []))) { imports = its_memory ∷ [] })) all_kinds (Call g [] ∷ (Set (MemoryOf its) 4 (Number 8) ∷ (Call g [] ∷ []))) 25 ≡ Linked ∷ (Returned (Number 7 ∷ []) ∷ (Done ∷ (Returned (Number 8 ∷ []) ∷ [])))
+a_memory_imported_by_two_parts : events (a_and_b (record (gives (num 1 ∷ [])) { imports = its_memory ∷ []; datas = writes 4 7 ∷ [] }) (record (gives (num 4 ∷ (i.Load load.I32Load8U (by 0) ∷ []))) { imports = its_memory ∷ [] })) all_kinds
+    (Call g [] ∷ (Set (MemoryOf its) 4 (Number 8) ∷ (Call g [] ∷ []))) 25 ≡ Linked ∷ (Returned (Number 7 ∷ []) ∷ (Done ∷ (Returned (Number 8 ∷ []) ∷ [])))
 unfolding out-Instr denote.Hole.Carrier.out wrapped un_from un_to un_value bin_from bin_to bin_value load_to load_width loaded store_from stored
 a_memory_imported_by_two_parts = refl
 
 -- two imports of one function are asked alike
-a_function_imported_twice : events (named 2 2 (record empty { imports = offered (im.Func 0) ∷ (offered (im.Func 0) ∷ []); funcs = code 0 (i.Call 0 ∷ (i.Call 1 ∷ (i.Bin bin.I32Sub ∷ []))) ∷ [] })) all_kinds (Call f [] ∷ (Answer (Number 9 ∷ []) ∷ (Answer (Number 4 ∷ []) ∷ []))) 25 ≡ Linked ∷ (Asked its to_i32 [] ∷ (Asked its to_i32 [] ∷ (Returned (Number 5 ∷ []) ∷ [])))
+a_function_imported_twice : events (named 2 2 (record empty { imports = offered (im.Func 0) ∷ (offered (im.Func 0) ∷ []); funcs = code 0 (i.Call 0 ∷ (i.Call 1 ∷ (i.Bin bin.I32Sub ∷ []))) ∷ [] })) all_kinds (Call f [] ∷ (Answer (Number 9 ∷ []) ∷ (Answer (Number 4 ∷ []) ∷ []))) 25 ≡ Linked ∷
+    (Asked its to_i32 [] ∷ (Asked its to_i32 [] ∷ (Returned (Number 5 ∷ []) ∷ [])))
 unfolding out-Instr denote.Hole.Carrier.out wrapped un_from un_to un_value bin_from bin_to bin_value load_to load_width loaded store_from stored
 a_function_imported_twice = refl
 
@@ -502,7 +526,8 @@ unfolding out-Instr denote.Hole.Carrier.out wrapped un_from un_to un_value bin_f
 a_function_imported_twice_is_one = refl
 
 -- imports of one pair with two types are two functions
-two_types_of_one_pair : events (named 2 2 (record empty { imports = offered (im.Func 2) ∷ (offered (im.Func 0) ∷ []); funcs = code 0 (i.Call 0 ∷ (i.Call 1 ∷ [])) ∷ [] })) all_kinds (Call f [] ∷ (Answer [] ∷ (Answer (Number 4 ∷ []) ∷ []))) 25 ≡ Linked ∷ (Asked its nothing [] ∷ (Asked its to_i32 [] ∷ (Returned (Number 4 ∷ []) ∷ [])))
+two_types_of_one_pair : events (named 2 2 (record empty { imports = offered (im.Func 2) ∷ (offered (im.Func 0) ∷ []); funcs = code 0 (i.Call 0 ∷ (i.Call 1 ∷ [])) ∷ [] })) all_kinds (Call f [] ∷ (Answer [] ∷ (Answer (Number 4 ∷ []) ∷ []))) 25 ≡ Linked ∷
+    (Asked its nothing [] ∷ (Asked its to_i32 [] ∷ (Returned (Number 4 ∷ []) ∷ [])))
 unfolding out-Instr denote.Hole.Carrier.out wrapped un_from un_to un_value bin_from bin_to bin_value load_to load_width loaded store_from stored
 two_types_of_one_pair = refl
 
@@ -512,12 +537,14 @@ unfolding out-Instr denote.Hole.Carrier.out wrapped un_from un_to un_value bin_f
 a_type_that_is_not_offered = refl
 
 -- where the part of that name does not export it, an import goes to the environment
-an_import_that_a_part_does_not_export : events (record calling { parts = record { name = None; «module» = importing (i.Call 0 ∷ []) } ∷ (record { name = Some e; «module» = empty } ∷ []) }) own (Call f [] ∷ (Answer (Number 4 ∷ []) ∷ [])) 25 ≡ Linked ∷ (Asked (e, g) to_i32 [] ∷ (Returned (Number 4 ∷ []) ∷ []))
+an_import_that_a_part_does_not_export : events (record calling { parts = record { name = None; «module» = importing (i.Call 0 ∷ []) } ∷ (record { name = Some e; «module» = empty } ∷ []) }) own (Call f [] ∷ (Answer (Number 4 ∷ []) ∷ [])) 25 ≡ Linked ∷
+    (Asked (e, g) to_i32 [] ∷ (Returned (Number 4 ∷ []) ∷ []))
 unfolding out-Instr denote.Hole.Carrier.out wrapped un_from un_to un_value bin_from bin_to bin_value load_to load_width loaded store_from stored
 an_import_that_a_part_does_not_export = refl
 
 -- where it exports something else by that name, it is joined with that, and does not match
-an_import_that_a_part_exports_otherwise : events (record calling { parts = record { name = None; «module» = importing (i.Call 0 ∷ []) } ∷ (record { name = Some e; «module» = record empty { funcs = code 2 [] ∷ []; exports = record { name = g; desc = ex.Func 0 } ∷ [] } } ∷ []) }) own [] 25 ≡ LinkFault ∷ []
+an_import_that_a_part_exports_otherwise : events (record calling { parts = record { name = None; «module» = importing (i.Call 0 ∷ []) } ∷ (record { name = Some e; «module» = record empty { funcs = code 2 [] ∷ []; exports = record { name = g; desc = ex.Func 0 } ∷ [] } } ∷ []) }) own [] 25 ≡
+    LinkFault ∷ []
 unfolding out-Instr denote.Hole.Carrier.out wrapped un_from un_to un_value bin_from bin_to bin_value load_to load_width loaded store_from stored
 an_import_that_a_part_exports_otherwise = refl
 
@@ -542,12 +569,21 @@ unfolding out-Instr denote.Hole.Carrier.out wrapped un_from un_to un_value bin_f
 a_first_start_that_is_refused = refl
 
 -- a segment of the second part comes before the start of the first
-segments_come_before_starts : events (record { parts = record { name = Some a; «module» = record empty { imports = its_memory ∷ (its_global ∷ []); funcs = code 2 (num 0 ∷ (i.Load load.I32Load8U (by 0) ∷ (i.GlobalSet 0 ∷ []))) ∷ []; start = Some 0 } } ∷ (record { name = Some b; «module» = writing (writes 0 8 ∷ []) } ∷ []); view = [] }) all_kinds (Get (GlobalOf its) 0 ∷ []) 25 ≡ Linked ∷ (Got (Number 8) ∷ [])
+segments_come_before_starts : events (record {
+  parts = record { name = Some a; «module» = record empty { imports = its_memory ∷ (its_global ∷ []); funcs = code 2 (num 0 ∷ (i.Load load.I32Load8U (by 0) ∷ (i.GlobalSet 0 ∷ []))) ∷ []; start = Some 0 } } ∷
+      (record { name = Some b; «module» = writing (writes 0 8 ∷ []) } ∷ []);
+  view = [];
+}) all_kinds (Get (GlobalOf its) 0 ∷ []) 25 ≡ Linked ∷ (Got (Number 8) ∷ [])
 unfolding out-Instr denote.Hole.Carrier.out wrapped un_from un_to un_value bin_from bin_to bin_value load_to load_width loaded store_from stored
 segments_come_before_starts = refl
 
 -- the first part's start comes first though it imports from the second
-starts_come_by_part_also_against_imports : events (record { parts = record { name = Some a; «module» = record empty { imports = record { «module» = b; field = f; desc = im.Func 2 } ∷ []; funcs = code 2 (i.Call 0 ∷ []) ∷ []; start = Some 1 } } ∷ (record { name = Some b; «module» = record setting { exports = record { name = f; desc = ex.Func 1 } ∷ [] } } ∷ []); view = [] }) all_kinds (Set (GlobalOf its) 0 (Number 9) ∷ (Answer [] ∷ (Get (GlobalOf its) 0 ∷ (Answer [] ∷ [])))) 40 ≡ Asked its nothing [] ∷ (Done ∷ (Asked its nothing [] ∷ (Got (Number 7) ∷ (Linked ∷ []))))
+starts_come_by_part_also_against_imports : events (record {
+  parts = record { name = Some a; «module» = record empty { imports = record { «module» = b; field = f; desc = im.Func 2 } ∷ []; funcs = code 2 (i.Call 0 ∷ []) ∷ []; start = Some 1 } } ∷
+      (record { name = Some b; «module» = record setting { exports = record { name = f; desc = ex.Func 1 } ∷ [] } } ∷ []);
+  view = [];
+}) all_kinds (Set (GlobalOf its) 0 (Number 9) ∷ (Answer [] ∷ (Get (GlobalOf its) 0 ∷ (Answer [] ∷ [])))) 40 ≡ Asked its nothing [] ∷
+    (Done ∷ (Asked its nothing [] ∷ (Got (Number 7) ∷ (Linked ∷ []))))
 unfolding out-Instr denote.Hole.Carrier.out wrapped un_from un_to un_value bin_from bin_to bin_value load_to load_width loaded store_from stored
 starts_come_by_part_also_against_imports = refl
 

@@ -2,7 +2,8 @@
 use Rattle.base_lists.proofs.Common.{◌≡◌, ◌∙◌, ap, subst, refl, ℕ, zero, suc, ◌+◌, ◌-◌, ◌<◌, ◌≤◌, List, [], ◌∷◌, ◌++◌, map, length, arith, Option, Some, None, ◌↔◌, Bool, true, false, cond, option_and_then, slice_get}
 use Rattle.wasm_tree_spec.specs.Prelude.{Globals, Import, GlobalDef, ConstExpr, Module, index_of_export, space_of_export}
 use Rattle.wasm_tree.specs.declared.module.ConstExpr.TheVariants as const
-use Rattle.wasm_meaning.specs.Prelude.{PathStep, EndsWith, LeadsTo, Part, Site, End, Defined, Outside, Entity, Read, places, module_at, import_at, imports_of, has_kind, joined, imported_as, entity_step, joined_step, import_step, sites_in, sites_from, sites, end_of, initial, outside_read, global_import, end_step, read_step, initials_from, read_of}
+use Rattle.wasm_meaning.specs.Prelude.{PathStep, EndsWith, LeadsTo, Part, Site, End, Defined, Outside, Entity, Read, places, module_at, import_at, imports_of, has_kind, joined, imported_as, entity_step, joined_step, import_step, sites_in, sites_from, sites, end_of, initial, outside_read}
+use Rattle.wasm_meaning.specs.Prelude.{global_import, end_step, read_step, initials_from, read_of}
 use Rattle.wasm_meaning.specs.Paths.{In, here, there}
 use Rattle.wasm_meaning.specs.Linking.{LeadsToEnd, expr_step, Reads}
 use Rattle.wasm_meaning.proofs.Walks.{walk_is}

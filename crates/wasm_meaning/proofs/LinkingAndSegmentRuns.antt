@@ -12,7 +12,8 @@ use Rattle.wasm_tree.specs.declared.module.ConstExpr.TheVariants as const
 use Rattle.wasm_tree.specs.declared.module.ElemMode.TheVariants as elem
 use Rattle.wasm_tree.specs.declared.module.DataMode.TheVariants as data'
 use Rattle.wasm_num.specs.Operations.{wrapped, un_from, un_to, un_value, bin_from, bin_to, bin_value}
-use Rattle.wasm_meaning.specs.Prelude.{copies, Text, Pair, Part, Environment, Shown, Number, Null, OwnFunc, ExternNumber, Function, World, Event, Place, Linked, LinkFault, InstanceTrapped, Returned, Trapped, Asked, GrowAsked, Got, Done, BadMove, Call, Invoke, Take, Answer, Grant, Get, Set, TableOf, GlobalOf, Named, events, events_sequential, LoaderWorld, events_loaded}
+use Rattle.wasm_meaning.specs.Prelude.{copies, Text, Pair, Part, Environment, Shown, Number, Null, OwnFunc, ExternNumber, Function, World, Event, Place, Linked, LinkFault, InstanceTrapped, Returned, Trapped, Asked, GrowAsked, Got, Done, BadMove, Call, Invoke, Take, Answer, Grant, Get, Set, TableOf}
+use Rattle.wasm_meaning.specs.Prelude.{GlobalOf, Named, events, events_sequential, LoaderWorld, events_loaded}
 use Rattle.wasm_meaning.specs.Access.{load_to, load_width, loaded, store_from, stored}
 use Rattle.wasm_meaning.specs.World as world
 use Rattle.wasm_meaning.proofs.SmallRuns.{f, g, a, b, e, m, i32, to_i32, nothing, to_nothing, empty, code, num, gives, plain, returns, env, log, linked_by_hand, logging}
@@ -88,12 +89,25 @@ unfolding out-Instr denote.Hole.Carrier.out wrapped un_from un_to un_value bin_f
 what_is_not_imported_is_not_there = refl
 
 -- global 1 is the third import: a global that is defined takes its value
-imports_of_several_kinds : events (record { parts = record { name = None; «module» = record (first_and (i.Call 0 ∷ (i.GlobalGet 2 ∷ (plus ∷ (i.GlobalGet 0 ∷ (plus ∷ []))))) []) { imports = from_e (im.Global (fixed i32)) ∷ (from_e (im.Func 0) ∷ (record { «module» = e; field = m; desc = im.Global (fixed i32) } ∷ [])); globals = record { ty = fixed i32; init = const.Global 1 } ∷ [] } } ∷ []; view = (f, record { part = 0; what = ex.Func 1 }) ∷ [] }) one_of_each (Call f [] ∷ (Answer (Number 19 ∷ []) ∷ [])) 40 ≡ Linked ∷ (Asked (e, g) to_i32 [] ∷ (Returned (Number 42 ∷ []) ∷ []))
+imports_of_several_kinds : events (record {
+  parts = record {
+    name = None;
+    «module» = record (first_and (i.Call 0 ∷ (i.GlobalGet 2 ∷ (plus ∷ (i.GlobalGet 0 ∷ (plus ∷ []))))) [])
+        { imports = from_e (im.Global (fixed i32)) ∷ (from_e (im.Func 0) ∷ (record { «module» = e; field = m; desc = im.Global (fixed i32) } ∷ [])); globals = record { ty = fixed i32; init = const.Global 1 } ∷ [] };
+  } ∷ [];
+  view = (f, record { part = 0; what = ex.Func 1 }) ∷ [];
+}) one_of_each
+    (Call f [] ∷ (Answer (Number 19 ∷ []) ∷ [])) 40 ≡ Linked ∷ (Asked (e, g) to_i32 [] ∷ (Returned (Number 42 ∷ []) ∷ []))
 unfolding out-Instr denote.Hole.Carrier.out wrapped un_from un_to un_value bin_from bin_to bin_value load_to load_width loaded store_from stored
 imports_of_several_kinds = refl
 
 -- an i64 that is -1, null and a function
-globals_of_each_type : events (plain (record empty { types = record { params = []; results = i64 ∷ (externref ∷ (funcref ∷ [])) } ∷ []; funcs = code 0 (i.GlobalGet 0 ∷ (i.GlobalGet 1 ∷ (i.GlobalGet 2 ∷ []))) ∷ []; globals = record { ty = fixed i64; init = const.I64 (negsuc 0) } ∷ (record { ty = fixed externref; init = const.Null reft.Extern } ∷ (record { ty = fixed funcref; init = const.Func 0 } ∷ [])) })) [] (Call f [] ∷ []) 40 ≡ returns (Number 18446744073709551615 ∷ (Null ∷ (Function 0 ∷ [])))
+globals_of_each_type : events (plain (record empty {
+  types = record { params = []; results = i64 ∷ (externref ∷ (funcref ∷ [])) } ∷ [];
+  funcs = code 0 (i.GlobalGet 0 ∷ (i.GlobalGet 1 ∷ (i.GlobalGet 2 ∷ []))) ∷ [];
+  globals = record { ty = fixed i64; init = const.I64 (negsuc 0) } ∷
+      (record { ty = fixed externref; init = const.Null reft.Extern } ∷ (record { ty = fixed funcref; init = const.Func 0 } ∷ []));
+})) [] (Call f [] ∷ []) 40 ≡ returns (Number 18446744073709551615 ∷ (Null ∷ (Function 0 ∷ [])))
 unfolding out-Instr denote.Hole.Carrier.out wrapped un_from un_to un_value bin_from bin_to bin_value load_to load_width loaded store_from stored
 globals_of_each_type = refl
 
@@ -154,7 +168,8 @@ unfolding out-Instr denote.Hole.Carrier.out wrapped un_from un_to un_value bin_f
 segments_by_joined_globals_in_turn = refl
 
 -- and from the environment's
-segments_by_globals_of_the_environment : events (plain (by_globals (from_e (im.Global (fixed i32))) (record { «module» = e; field = m; desc = im.Global (fixed funcref) }))) with_a_global (Call f [] ∷ (Answer (Number 3 ∷ []) ∷ [])) 40 ≡ Linked ∷ (Asked (e, g) to_i32 [] ∷ (Returned (Number 12 ∷ []) ∷ []))
+segments_by_globals_of_the_environment : events (plain (by_globals (from_e (im.Global (fixed i32))) (record { «module» = e; field = m; desc = im.Global (fixed funcref) }))) with_a_global (Call f [] ∷ (Answer (Number 3 ∷ []) ∷ [])) 40 ≡ Linked ∷
+    (Asked (e, g) to_i32 [] ∷ (Returned (Number 12 ∷ []) ∷ []))
 unfolding out-Instr denote.Hole.Carrier.out wrapped un_from un_to un_value bin_from bin_to bin_value load_to load_width loaded store_from stored
 segments_by_globals_of_the_environment = refl
 
@@ -235,7 +250,8 @@ abbrev global_for : GlobalType → Shown → GlobalType → List Event
 global_for has value asks = events (plain (needing (im.Global asks) (num 1 ∷ []))) (record { pair = (e, g); funcs = []; table = None; memory = None; global = Some (record { ty = has; value = value }) } ∷ []) (Call f [] ∷ []) 20
 
 -- a part's import leads through a to b
-a_path_of_two_joins : events (func_1_of (through_a ∷ (handing_on (record { «module» = b; field = f; desc = im.Func 0 }) ∷ (record { name = Some b; «module» = record (gives (num 3 ∷ [])) { exports = record { name = f; desc = ex.Func 0 } ∷ [] } } ∷ [])))) [] (Call f [] ∷ []) 40 ≡ returns (Number 3 ∷ [])
+a_path_of_two_joins : events (func_1_of (through_a ∷ (handing_on (record { «module» = b; field = f; desc = im.Func 0 }) ∷ (record { name = Some b; «module» = record (gives (num 3 ∷ [])) { exports = record { name = f; desc = ex.Func 0 } ∷ [] } } ∷ [])))) [] (Call f [] ∷ []) 40 ≡
+    returns (Number 3 ∷ [])
 unfolding out-Instr denote.Hole.Carrier.out wrapped un_from un_to un_value bin_from bin_to bin_value load_to load_width loaded store_from stored
 a_path_of_two_joins = refl
 
@@ -245,7 +261,12 @@ unfolding out-Instr denote.Hole.Carrier.out wrapped un_from un_to un_value bin_f
 a_path_to_the_environment = refl
 
 -- function 0 of a is its second import
-a_path_through_an_import_of_several : events (func_1_of (through_a ∷ (record { name = Some a; «module» = record empty { imports = record { «module» = b; field = g; desc = im.Global (fixed i32) } ∷ (record { «module» = b; field = f; desc = im.Func 0 } ∷ []); exports = record { name = f; desc = ex.Func 0 } ∷ [] } } ∷ (record { name = Some b; «module» = record with_globals_out { exports = record { name = f; desc = ex.Func 0 } ∷ (record { name = g; desc = ex.Global 0 } ∷ []) } } ∷ [])))) [] (Call f [] ∷ []) 40 ≡ returns (Number 3 ∷ [])
+a_path_through_an_import_of_several : events (func_1_of (through_a ∷ (record {
+  name = Some a;
+  «module» =
+      record empty { imports = record { «module» = b; field = g; desc = im.Global (fixed i32) } ∷ (record { «module» = b; field = f; desc = im.Func 0 } ∷ []); exports = record { name = f; desc = ex.Func 0 } ∷ [] };
+} ∷
+    (record { name = Some b; «module» = record with_globals_out { exports = record { name = f; desc = ex.Func 0 } ∷ (record { name = g; desc = ex.Global 0 } ∷ []) } } ∷ [])))) [] (Call f [] ∷ []) 40 ≡ returns (Number 3 ∷ [])
 unfolding out-Instr denote.Hole.Carrier.out wrapped un_from un_to un_value bin_from bin_to bin_value load_to load_width loaded store_from stored
 a_path_through_an_import_of_several = refl
 
@@ -413,7 +434,8 @@ unfolding out-Instr denote.Hole.Carrier.out wrapped un_from un_to un_value bin_f
 what_is_no_extern_reference = refl
 
 -- one, three, and two of which the second is null
-arguments_that_are_not_two : f_of (declaring two_to_two [] (i.LocalGet 0 ∷ (i.LocalGet 1 ∷ []))) (Call f (Number 7 ∷ []) ∷ (Call f (Number 7 ∷ (Number 2 ∷ (Number 1 ∷ []))) ∷ (Call f (Number 7 ∷ (Null ∷ [])) ∷ (Call f (Number 7 ∷ (Number 2 ∷ [])) ∷ [])))) ≡ Linked ∷ (BadMove ∷ (BadMove ∷ (BadMove ∷ (Returned (Number 7 ∷ (Number 2 ∷ [])) ∷ []))))
+arguments_that_are_not_two : f_of (declaring two_to_two [] (i.LocalGet 0 ∷ (i.LocalGet 1 ∷ []))) (Call f (Number 7 ∷ []) ∷ (Call f (Number 7 ∷ (Number 2 ∷ (Number 1 ∷ []))) ∷ (Call f (Number 7 ∷ (Null ∷ [])) ∷ (Call f (Number 7 ∷ (Number 2 ∷ [])) ∷ [])))) ≡ Linked ∷
+    (BadMove ∷ (BadMove ∷ (BadMove ∷ (Returned (Number 7 ∷ (Number 2 ∷ [])) ∷ []))))
 unfolding out-Instr denote.Hole.Carrier.out wrapped un_from un_to un_value bin_from bin_to bin_value load_to load_width loaded store_from stored
 arguments_that_are_not_two = refl
 
@@ -433,12 +455,14 @@ unfolding out-Instr denote.Hole.Carrier.out wrapped un_from un_to un_value bin_f
 an_own_function_in_a_table_at_first = refl
 
 -- the entry 1 of one, and what is no function
-an_entry_past_the_end : events (plain (gives (num 5 ∷ []))) table_and_global (Get its_table 1 ∷ (Set its_table 1 Null ∷ (Set its_table 0 (ExternNumber 0) ∷ (Set its_table 0 (Number 0) ∷ (Set its_table 0 Null ∷ (Get its_table 0 ∷ [])))))) 40 ≡ Linked ∷ (BadMove ∷ (BadMove ∷ (BadMove ∷ (BadMove ∷ (Done ∷ (Got Null ∷ []))))))
+an_entry_past_the_end : events (plain (gives (num 5 ∷ []))) table_and_global (Get its_table 1 ∷ (Set its_table 1 Null ∷ (Set its_table 0 (ExternNumber 0) ∷ (Set its_table 0 (Number 0) ∷ (Set its_table 0 Null ∷ (Get its_table 0 ∷ [])))))) 40 ≡ Linked ∷
+    (BadMove ∷ (BadMove ∷ (BadMove ∷ (BadMove ∷ (Done ∷ (Got Null ∷ []))))))
 unfolding out-Instr denote.Hole.Carrier.out wrapped un_from un_to un_value bin_from bin_to bin_value load_to load_width loaded store_from stored
 an_entry_past_the_end = refl
 
 -- 2 ^ 32 and null are no i32, and a global has no place 1
-a_global_is_set_to_its_type : events (plain (gives (num 5 ∷ []))) table_and_global (Set its_global 0 (Number 4294967296) ∷ (Set its_global 0 Null ∷ (Set its_global 1 (Number 4) ∷ (Get its_global 0 ∷ (Set its_global 0 (Number 4294967295) ∷ (Get its_global 0 ∷ [])))))) 40 ≡ Linked ∷ (BadMove ∷ (BadMove ∷ (BadMove ∷ (Got (Number 3) ∷ (Done ∷ (Got (Number 4294967295) ∷ []))))))
+a_global_is_set_to_its_type : events (plain (gives (num 5 ∷ []))) table_and_global (Set its_global 0 (Number 4294967296) ∷ (Set its_global 0 Null ∷ (Set its_global 1 (Number 4) ∷ (Get its_global 0 ∷ (Set its_global 0 (Number 4294967295) ∷ (Get its_global 0 ∷ [])))))) 40 ≡ Linked ∷
+    (BadMove ∷ (BadMove ∷ (BadMove ∷ (Got (Number 3) ∷ (Done ∷ (Got (Number 4294967295) ∷ []))))))
 unfolding out-Instr denote.Hole.Carrier.out wrapped un_from un_to un_value bin_from bin_to bin_value load_to load_width loaded store_from stored
 a_global_is_set_to_its_type = refl
 
@@ -453,7 +477,11 @@ unfolding out-Instr denote.Hole.Carrier.out wrapped un_from un_to un_value bin_f
 a_trap_while_a_call_waits = refl
 
 -- the code sees after the answer what was set before it
-a_byte_is_set_while_a_call_waits : events (record { parts = record { name = None; «module» = record (one_memory [] (i.Call 0 ∷ (num 0 ∷ (byte_in 0 ∷ (plus ∷ []))))) { imports = from_e (im.Func 0) ∷ [] } } ∷ []; view = (f, record { part = 0; what = ex.Func 1 }) ∷ ((m, record { part = 0; what = ex.Memory 0 }) ∷ []) }) (offering (to_i32 ∷ [])) (Call f [] ∷ (Set (Named m) 0 (Number 9) ∷ (Answer (Number 1 ∷ []) ∷ []))) 40 ≡ Linked ∷ (Asked (e, g) to_i32 [] ∷ (Done ∷ (Returned (Number 10 ∷ []) ∷ [])))
+a_byte_is_set_while_a_call_waits : events (record {
+  parts = record { name = None; «module» = record (one_memory [] (i.Call 0 ∷ (num 0 ∷ (byte_in 0 ∷ (plus ∷ []))))) { imports = from_e (im.Func 0) ∷ [] } } ∷ [];
+  view = (f, record { part = 0; what = ex.Func 1 }) ∷
+      ((m, record { part = 0; what = ex.Memory 0 }) ∷ []);
+}) (offering (to_i32 ∷ [])) (Call f [] ∷ (Set (Named m) 0 (Number 9) ∷ (Answer (Number 1 ∷ []) ∷ []))) 40 ≡ Linked ∷ (Asked (e, g) to_i32 [] ∷ (Done ∷ (Returned (Number 10 ∷ []) ∷ [])))
 unfolding out-Instr denote.Hole.Carrier.out wrapped un_from un_to un_value bin_from bin_to bin_value load_to load_width loaded store_from stored
 a_byte_is_set_while_a_call_waits = refl
 
@@ -486,7 +514,8 @@ abbrev one_slot : List (Pair × FuncType)
 one_slot = ((b, g), to_i32) ∷ []
 
 -- the function in the slot gets the arguments in order
-a_placeholder_takes_two_in_order : events_loaded (loaded_by (primary 1 1 (const.Func 0 ∷ []) (code 0 (seven_two (i.Call 0 ∷ [])) ∷ [])) (secondary 1 (const.Func 0 ∷ []) (difference ∷ [])) (((b, g), takes_two) ∷ []) ((f, ex.Func 1) ∷ [])) [] (Call f [] ∷ (Call f [] ∷ [])) 60 ≡ Linked ∷ (Returned (Number 5 ∷ []) ∷ (Returned (Number 5 ∷ []) ∷ []))
+a_placeholder_takes_two_in_order : events_loaded (loaded_by (primary 1 1 (const.Func 0 ∷ []) (code 0 (seven_two (i.Call 0 ∷ [])) ∷ [])) (secondary 1 (const.Func 0 ∷ []) (difference ∷ [])) (((b, g), takes_two) ∷ []) ((f, ex.Func 1) ∷ [])) [] (Call f [] ∷ (Call f [] ∷ [])) 60 ≡ Linked ∷
+    (Returned (Number 5 ∷ []) ∷ (Returned (Number 5 ∷ []) ∷ []))
 unfolding out-Instr denote.Hole.Carrier.out wrapped un_from un_to un_value bin_from bin_to bin_value load_to load_width loaded store_from stored
 a_placeholder_takes_two_in_order = refl
 
@@ -543,7 +572,8 @@ unfolding out-Instr denote.Hole.Carrier.out wrapped un_from un_to un_value bin_f
 a_memory_that_did_not_grow_before_the_load = refl
 
 -- the second placeholder's call loads, and each goes to its slot
-the_second_placeholder_loads : events_loaded (loaded_by two_slots (secondary 2 (const.Func 0 ∷ (const.Func 1 ∷ [])) (giving 7 ∷ (giving 8 ∷ []))) (((b, g), to_i32) ∷ (((b, f), to_i32) ∷ [])) ((f, ex.Func 2) ∷ ((g, ex.Func 3) ∷ []))) [] (Call f [] ∷ (Call g [] ∷ [])) 60 ≡ Linked ∷ (Returned (Number 8 ∷ []) ∷ (Returned (Number 7 ∷ []) ∷ []))
+the_second_placeholder_loads : events_loaded (loaded_by two_slots (secondary 2 (const.Func 0 ∷ (const.Func 1 ∷ [])) (giving 7 ∷ (giving 8 ∷ []))) (((b, g), to_i32) ∷ (((b, f), to_i32) ∷ [])) ((f, ex.Func 2) ∷ ((g, ex.Func 3) ∷ []))) [] (Call f [] ∷ (Call g [] ∷ [])) 60 ≡ Linked ∷
+    (Returned (Number 8 ∷ []) ∷ (Returned (Number 7 ∷ []) ∷ []))
 unfolding out-Instr denote.Hole.Carrier.out wrapped un_from un_to un_value bin_from bin_to bin_value load_to load_width loaded store_from stored
 the_second_placeholder_loads = refl
 
@@ -578,12 +608,14 @@ unfolding out-Instr denote.Hole.Carrier.out wrapped un_from un_to un_value bin_f
 a_placeholder_is_not_asked_of_the_environment = refl
 
 -- a placeholder in a table is shown by its number, as code is
-a_placeholder_has_a_number : events_loaded (loaded_by calls_moved gives_moved one_slot (f_and a (ex.Table 0))) [] (Get (Named a) 0 ∷ (Call f [] ∷ (Get (Named a) 0 ∷ (Invoke 1 [] ∷ [])))) 60 ≡ Linked ∷ (Got (Function 0) ∷ (Returned (Number 7 ∷ []) ∷ (Got (Function 1) ∷ (Returned (Number 7 ∷ []) ∷ []))))
+a_placeholder_has_a_number : events_loaded (loaded_by calls_moved gives_moved one_slot (f_and a (ex.Table 0))) [] (Get (Named a) 0 ∷ (Call f [] ∷ (Get (Named a) 0 ∷ (Invoke 1 [] ∷ [])))) 60 ≡ Linked ∷
+    (Got (Function 0) ∷ (Returned (Number 7 ∷ []) ∷ (Got (Function 1) ∷ (Returned (Number 7 ∷ []) ∷ []))))
 unfolding out-Instr denote.Hole.Carrier.out wrapped un_from un_to un_value bin_from bin_to bin_value load_to load_width loaded store_from stored
 a_placeholder_has_a_number = refl
 
 -- where a move calls it, that is answered as a call by code is, the loading included
-a_placeholder_that_a_move_calls : events_loaded (loaded_by calls_moved gives_moved one_slot (f_and a (ex.Table 0))) [] (Get (Named a) 0 ∷ (Invoke 0 [] ∷ (Get (Named a) 0 ∷ (Call f [] ∷ [])))) 60 ≡ Linked ∷ (Got (Function 0) ∷ (Returned (Number 7 ∷ []) ∷ (Got (Function 1) ∷ (Returned (Number 7 ∷ []) ∷ []))))
+a_placeholder_that_a_move_calls : events_loaded (loaded_by calls_moved gives_moved one_slot (f_and a (ex.Table 0))) [] (Get (Named a) 0 ∷ (Invoke 0 [] ∷ (Get (Named a) 0 ∷ (Call f [] ∷ [])))) 60 ≡ Linked ∷
+    (Got (Function 0) ∷ (Returned (Number 7 ∷ []) ∷ (Got (Function 1) ∷ (Returned (Number 7 ∷ []) ∷ []))))
 unfolding out-Instr denote.Hole.Carrier.out wrapped un_from un_to un_value bin_from bin_to bin_value load_to load_width loaded store_from stored
 a_placeholder_that_a_move_calls = refl
 
@@ -608,6 +640,7 @@ abbrev left_by_a_linker : Module
 left_by_a_linker = record linked_by_hand { exports = out_as memory_name (ex.Memory 0) ∷ (out_as constructors_name (ex.Func 1) ∷ (out_as run_name (ex.Func 4) ∷ [])) }
 
 -- its exports are what the embedder may use
-a_module_alone_has_its_exports : events (world.alone left_by_a_linker) logging (Call constructors_name [] ∷ (Get (Named memory_name) 1028 ∷ (Call run_name (Number 21 ∷ []) ∷ (Answer [] ∷ (Call f [] ∷ []))))) 60 ≡ Linked ∷ (Returned [] ∷ (Got (Number 42) ∷ (Asked (env, log) to_nothing (Number 21 ∷ []) ∷ (Returned (Number 42 ∷ []) ∷ (BadMove ∷ [])))))
+a_module_alone_has_its_exports : events (world.alone left_by_a_linker) logging (Call constructors_name [] ∷ (Get (Named memory_name) 1028 ∷ (Call run_name (Number 21 ∷ []) ∷ (Answer [] ∷ (Call f [] ∷ []))))) 60 ≡ Linked ∷
+    (Returned [] ∷ (Got (Number 42) ∷ (Asked (env, log) to_nothing (Number 21 ∷ []) ∷ (Returned (Number 42 ∷ []) ∷ (BadMove ∷ [])))))
 unfolding out-Instr denote.Hole.Carrier.out wrapped un_from un_to un_value bin_from bin_to bin_value load_to load_width loaded store_from stored
 a_module_alone_has_its_exports = refl

@@ -440,7 +440,8 @@ memory_fill_of_nothing_past_the_end_traps : f_gives (bytes_in at_first (num 6553
 unfolding out-Instr denote.Hole.Carrier.out wrapped un_from un_to un_value bin_from bin_to bin_value load_to load_width loaded store_from stored
 memory_fill_of_nothing_past_the_end_traps = refl
 
-a_granted_memory_is_longer_and_zero : events (plain (page (gives (num 65532 ∷ (num 9 ∷ (i.Store store.I32Store (by 0) ∷ (num 1 ∷ (i.MemoryGrow 0 ∷ (i.Drop ∷ (num 65534 ∷ (i.Load load.I32Load (by 0) ∷ (i.MemorySize 0 ∷ (i.Bin bin.I32Add ∷ []))))))))))))) [] (Call f [] ∷ (Grant ∷ [])) 25 ≡ Linked ∷ (GrowAsked Memories 1 1 ∷ (Returned (Number 2 ∷ []) ∷ []))
+a_granted_memory_is_longer_and_zero : events (plain (page (gives (num 65532 ∷ (num 9 ∷ (i.Store store.I32Store (by 0) ∷ (num 1 ∷ (i.MemoryGrow 0 ∷ (i.Drop ∷ (num 65534 ∷ (i.Load load.I32Load (by 0) ∷ (i.MemorySize 0 ∷ (i.Bin bin.I32Add ∷ []))))))))))))) [] (Call f [] ∷ (Grant ∷ [])) 25 ≡ Linked ∷
+    (GrowAsked Memories 1 1 ∷ (Returned (Number 2 ∷ []) ∷ []))
 unfolding out-Instr denote.Hole.Carrier.out wrapped un_from un_to un_value bin_from bin_to bin_value load_to load_width loaded store_from stored
 a_granted_memory_is_longer_and_zero = refl
 
@@ -522,7 +523,8 @@ table_grow_denied : events (plain (three (gives (i.RefFunc 0 ∷ (num 1 ∷ (i.T
 unfolding out-Instr denote.Hole.Carrier.out wrapped un_from un_to un_value bin_from bin_to bin_value load_to load_width loaded store_from stored
 table_grow_denied = refl
 
-a_granted_table_holds_the_reference : events (plain (three (gives (i.RefFunc 0 ∷ (num 1 ∷ (i.TableGrow 0 ∷ (i.Drop ∷ (num 3 ∷ (i.TableGet 0 ∷ (i.RefIsNull ∷ (i.TableSize 0 ∷ (i.Bin bin.I32Add ∷ [])))))))))))) [] (Call f [] ∷ (Grant ∷ [])) 25 ≡ Linked ∷ (GrowAsked Tables 3 1 ∷ (Returned (Number 4 ∷ []) ∷ []))
+a_granted_table_holds_the_reference : events (plain (three (gives (i.RefFunc 0 ∷ (num 1 ∷ (i.TableGrow 0 ∷ (i.Drop ∷ (num 3 ∷ (i.TableGet 0 ∷ (i.RefIsNull ∷ (i.TableSize 0 ∷ (i.Bin bin.I32Add ∷ [])))))))))))) [] (Call f [] ∷ (Grant ∷ [])) 25 ≡ Linked ∷
+    (GrowAsked Tables 3 1 ∷ (Returned (Number 4 ∷ []) ∷ []))
 unfolding out-Instr denote.Hole.Carrier.out wrapped un_from un_to un_value bin_from bin_to bin_value load_to load_width loaded store_from stored
 a_granted_table_holds_the_reference = refl
 

@@ -113,7 +113,8 @@ unfolding out-Instr denote.Hole.Carrier.out shown-the_row-Instr-0 denote.Hole.Ca
 an_arm_gives_two_in_order = refl
 
 -- a branch begins a loop again with two in order, and is not taken the second time
-a_branch_to_a_loop_takes_two_in_order : events (plain (record pairs { funcs = record { ty = 0; locals = record { count = 1; ty = i32 } ∷ []; body = seven_two (i.Loop (bt.Index 1) (i.LocalGet 0 ∷ (i.Un un.I32Eqz ∷ (num 1 ∷ (i.LocalSet 0 ∷ (i.BrIf 0 ∷ (minus ∷ [])))))) ∷ []) } ∷ [] })) [] (Call f [] ∷ []) 40 ≡ returns (Number 5 ∷ [])
+a_branch_to_a_loop_takes_two_in_order : events (plain (record pairs { funcs = record { ty = 0; locals = record { count = 1; ty = i32 } ∷ []; body = seven_two (i.Loop (bt.Index 1) (i.LocalGet 0 ∷ (i.Un un.I32Eqz ∷ (num 1 ∷ (i.LocalSet 0 ∷ (i.BrIf 0 ∷ (minus ∷ [])))))) ∷ []) } ∷ [] })) []
+    (Call f [] ∷ []) 40 ≡ returns (Number 5 ∷ [])
 unfolding out-Instr denote.Hole.Carrier.out shown-the_row-Instr-0 denote.Hole.Carrier.shown denote.Hole.Carrier.hidden wrapped un_from un_to un_value bin_from bin_to bin_value
 a_branch_to_a_loop_takes_two_in_order = refl
 
@@ -148,7 +149,14 @@ unfolding out-Instr denote.Hole.Carrier.out shown-the_row-Instr-0 denote.Hole.Ca
 a_branch_takes_its_own_count = refl
 
 -- nor what a branch to a loop begins: it is made three times
-a_loop_is_begun_again_after_a_block : gives_in (record empty { funcs = record { ty = 0; locals = record { count = 1; ty = i32 } ∷ []; body = i.Loop bt.Empty (i.Block bt.Empty (i.Nop ∷ []) ∷ (i.LocalGet 0 ∷ (num 1 ∷ (plus ∷ (i.LocalTee 0 ∷ (num 3 ∷ (i.Bin bin.I32LtU ∷ (i.BrIf 0 ∷ [])))))))) ∷ (i.LocalGet 0 ∷ []) } ∷ [] }) ≡ returns (Number 3 ∷ [])
+a_loop_is_begun_again_after_a_block : gives_in (record empty {
+  funcs = record {
+    ty = 0;
+    locals = record { count = 1; ty = i32 } ∷ [];
+    body = i.Loop bt.Empty (i.Block bt.Empty (i.Nop ∷ []) ∷ (i.LocalGet 0 ∷ (num 1 ∷ (plus ∷ (i.LocalTee 0 ∷ (num 3 ∷ (i.Bin bin.I32LtU ∷ (i.BrIf 0 ∷ [])))))))) ∷
+        (i.LocalGet 0 ∷ []);
+  } ∷ [];
+}) ≡ returns (Number 3 ∷ [])
 unfolding out-Instr denote.Hole.Carrier.out shown-the_row-Instr-0 denote.Hole.Carrier.shown denote.Hole.Carrier.hidden wrapped un_from un_to un_value bin_from bin_to bin_value
 a_loop_is_begun_again_after_a_block = refl
 
@@ -158,7 +166,8 @@ unfolding out-Instr denote.Hole.Carrier.out wrapped un_from un_to un_value bin_f
 a_call_takes_two_in_order = refl
 
 -- so does one through a table
-a_call_through_a_table_takes_two_in_order : gives_in (record (first_and (seven_two (num 0 ∷ (i.CallIndirect 1 0 ∷ []))) (difference ∷ [])) { tables = record { ty = reft.Func; limits = record { min = 1; max = None } } ∷ []; elems = record { mode = elem.Active 0 (const.I32 (pos 0)); ty = reft.Func; items = const.Func 1 ∷ [] } ∷ [] }) ≡ returns (Number 5 ∷ [])
+a_call_through_a_table_takes_two_in_order : gives_in (record (first_and (seven_two (num 0 ∷ (i.CallIndirect 1 0 ∷ []))) (difference ∷ []))
+    { tables = record { ty = reft.Func; limits = record { min = 1; max = None } } ∷ []; elems = record { mode = elem.Active 0 (const.I32 (pos 0)); ty = reft.Func; items = const.Func 1 ∷ [] } ∷ [] }) ≡ returns (Number 5 ∷ [])
 unfolding out-Instr denote.Hole.Carrier.out wrapped un_from un_to un_value bin_from bin_to bin_value load_to load_width loaded store_from stored
 a_call_through_a_table_takes_two_in_order = refl
 
@@ -189,7 +198,8 @@ abbrev asking : ℕ → List Instr → World
 asking ty body = record { parts = record { name = None; «module» = record pairs { imports = from_e (im.Func ty) ∷ []; funcs = code 0 body ∷ [] } } ∷ []; view = (f, record { part = 0; what = ex.Func 1 }) ∷ [] }
 
 -- the arguments of the environment's function are shown in order, and its results come in order
-an_own_call_shows_and_is_answered_two_in_order : events (asking 3 (num 9 ∷ (num 7 ∷ (num 2 ∷ (i.Call 0 ∷ (minus ∷ (minus ∷ []))))))) (offering (two_to_two ∷ [])) (Call f [] ∷ (Answer (Number 8 ∷ (Number 3 ∷ [])) ∷ [])) 40 ≡ Linked ∷ (Asked (e, g) two_to_two (Number 7 ∷ (Number 2 ∷ [])) ∷ (Returned (Number 4 ∷ []) ∷ []))
+an_own_call_shows_and_is_answered_two_in_order : events (asking 3 (num 9 ∷ (num 7 ∷ (num 2 ∷ (i.Call 0 ∷ (minus ∷ (minus ∷ []))))))) (offering (two_to_two ∷ [])) (Call f [] ∷ (Answer (Number 8 ∷ (Number 3 ∷ [])) ∷ [])) 40 ≡ Linked ∷
+    (Asked (e, g) two_to_two (Number 7 ∷ (Number 2 ∷ [])) ∷ (Returned (Number 4 ∷ []) ∷ []))
 unfolding out-Instr denote.Hole.Carrier.out wrapped un_from un_to un_value bin_from bin_to bin_value load_to load_width loaded store_from stored
 an_own_call_shows_and_is_answered_two_in_order = refl
 
@@ -335,7 +345,8 @@ unfolding out-Instr denote.Hole.Carrier.out wrapped un_from un_to un_value bin_f
 memory_copy_to_the_shorter_traps = refl
 
 -- memory 1 is filled, stored into and loaded from, and memory 0 stays
-memory_1_is_filled_stored_and_loaded : gives_in (two_memories [] (num 0 ∷ (num 9 ∷ (num 2 ∷ (i.MemoryFill 1 ∷ (num 1 ∷ (num 4 ∷ (i.Store store.I32Store8 (record { align = 0; offset = 0; memory = 1 }) ∷ (num 0 ∷ (byte_in 1 ∷ (num 1 ∷ (byte_in 1 ∷ (minus ∷ (num 0 ∷ (byte_in 0 ∷ (minus ∷ (num 1 ∷ (byte_in 0 ∷ (minus ∷ []))))))))))))))))))) ≡ returns (Number 5 ∷ [])
+memory_1_is_filled_stored_and_loaded : gives_in (two_memories [] (num 0 ∷ (num 9 ∷ (num 2 ∷ (i.MemoryFill 1 ∷
+    (num 1 ∷ (num 4 ∷ (i.Store store.I32Store8 (record { align = 0; offset = 0; memory = 1 }) ∷ (num 0 ∷ (byte_in 1 ∷ (num 1 ∷ (byte_in 1 ∷ (minus ∷ (num 0 ∷ (byte_in 0 ∷ (minus ∷ (num 1 ∷ (byte_in 0 ∷ (minus ∷ []))))))))))))))))))) ≡ returns (Number 5 ∷ [])
 unfolding out-Instr denote.Hole.Carrier.out wrapped un_from un_to un_value bin_from bin_to bin_value load_to load_width loaded store_from stored
 memory_1_is_filled_stored_and_loaded = refl
 
@@ -459,7 +470,8 @@ unfolding out-Instr denote.Hole.Carrier.out wrapped un_from un_to un_value bin_f
 locals_come_by_group = refl
 
 -- a group of none, an i64, and a reference of each type
-locals_are_zero_or_null : f_of (declaring (from_i32_to (i64 ∷ (funcref ∷ (externref ∷ [])))) (locals_of 0 i32 ∷ (locals_of 1 i64 ∷ (locals_of 1 funcref ∷ (locals_of 1 externref ∷ [])))) (i.LocalGet 1 ∷ (i.LocalGet 2 ∷ (i.LocalGet 3 ∷ [])))) (Call f (Number 7 ∷ []) ∷ []) ≡ returns (Number 0 ∷ (Null ∷ (Null ∷ [])))
+locals_are_zero_or_null : f_of (declaring (from_i32_to (i64 ∷ (funcref ∷ (externref ∷ [])))) (locals_of 0 i32 ∷ (locals_of 1 i64 ∷ (locals_of 1 funcref ∷ (locals_of 1 externref ∷ [])))) (i.LocalGet 1 ∷ (i.LocalGet 2 ∷ (i.LocalGet 3 ∷ [])))) (Call f (Number 7 ∷ []) ∷ []) ≡
+    returns (Number 0 ∷ (Null ∷ (Null ∷ [])))
 unfolding out-Instr denote.Hole.Carrier.out wrapped un_from un_to un_value bin_from bin_to bin_value load_to load_width loaded store_from stored
 locals_are_zero_or_null = refl
 
@@ -469,12 +481,14 @@ unfolding out-Instr denote.Hole.Carrier.out wrapped un_from un_to un_value bin_f
 locals_are_new_in_each_call = refl
 
 -- what a call sets is not there for its caller
-locals_stay_over_a_call : gives_in (record empty { funcs = record { ty = 0; locals = locals_of 1 i32 ∷ []; body = num 7 ∷ (i.LocalSet 0 ∷ (i.Call 1 ∷ (i.LocalGet 0 ∷ (minus ∷ [])))) } ∷ (record { ty = 0; locals = locals_of 1 i32 ∷ []; body = num 9 ∷ (i.LocalSet 0 ∷ (i.LocalGet 0 ∷ [])) } ∷ []) }) ≡ returns (Number 2 ∷ [])
+locals_stay_over_a_call : gives_in (record empty { funcs = record { ty = 0; locals = locals_of 1 i32 ∷ []; body = num 7 ∷ (i.LocalSet 0 ∷ (i.Call 1 ∷ (i.LocalGet 0 ∷ (minus ∷ [])))) } ∷ (record { ty = 0; locals = locals_of 1 i32 ∷ []; body = num 9 ∷ (i.LocalSet 0 ∷ (i.LocalGet 0 ∷ [])) } ∷ []) }) ≡
+    returns (Number 2 ∷ [])
 unfolding out-Instr denote.Hole.Carrier.out wrapped un_from un_to un_value bin_from bin_to bin_value load_to load_width loaded store_from stored
 locals_stay_over_a_call = refl
 
 -- an entry that is set, and one that is null at first, are extern references
-a_table_of_extern_references : f_of (record (declaring (record { params = externref ∷ []; results = externref ∷ (externref ∷ []) }) [] (num 0 ∷ (i.LocalGet 0 ∷ (i.TableSet 0 ∷ (num 0 ∷ (i.TableGet 0 ∷ (num 1 ∷ (i.TableGet 0 ∷ [])))))))) { tables = record { ty = reft.Extern; limits = record { min = 2; max = None } } ∷ [] }) (Call f (ExternNumber 7 ∷ []) ∷ []) ≡ returns (ExternNumber 7 ∷ (Null ∷ []))
+a_table_of_extern_references : f_of (record (declaring (record { params = externref ∷ []; results = externref ∷ (externref ∷ []) }) [] (num 0 ∷ (i.LocalGet 0 ∷ (i.TableSet 0 ∷ (num 0 ∷ (i.TableGet 0 ∷ (num 1 ∷ (i.TableGet 0 ∷ []))))))))
+    { tables = record { ty = reft.Extern; limits = record { min = 2; max = None } } ∷ [] }) (Call f (ExternNumber 7 ∷ []) ∷ []) ≡ returns (ExternNumber 7 ∷ (Null ∷ []))
 unfolding out-Instr denote.Hole.Carrier.out wrapped un_from un_to un_value bin_from bin_to bin_value load_to load_width loaded store_from stored
 a_table_of_extern_references = refl
 
@@ -496,7 +510,8 @@ taking first desc index body = record {
 }
 
 -- a call by type 0 of a function of type 3
-a_call_through_a_table_by_an_equal_type : gives_in (record empty { types = to_i32 ∷ (from_i32 ∷ (nothing ∷ (to_i32 ∷ []))); funcs = code 0 (num 0 ∷ (i.CallIndirect 0 0 ∷ [])) ∷ (code 3 (num 5 ∷ []) ∷ []); tables = func_table 1 ∷ []; elems = put_at 0 0 (const.Func 1 ∷ []) ∷ [] }) ≡ returns (Number 5 ∷ [])
+a_call_through_a_table_by_an_equal_type : gives_in (record empty { types = to_i32 ∷ (from_i32 ∷ (nothing ∷ (to_i32 ∷ []))); funcs = code 0 (num 0 ∷ (i.CallIndirect 0 0 ∷ [])) ∷ (code 3 (num 5 ∷ []) ∷ []); tables = func_table 1 ∷ []; elems = put_at 0 0 (const.Func 1 ∷ []) ∷ [] }) ≡
+    returns (Number 5 ∷ [])
 unfolding out-Instr denote.Hole.Carrier.out wrapped un_from un_to un_value bin_from bin_to bin_value load_to load_width loaded store_from stored
 a_call_through_a_table_by_an_equal_type = refl
 

@@ -270,39 +270,54 @@ table_get_past_the_end_traps : f_gives (three (record empty { funcs = code 0 (nu
 unfolding out-Instr denote.Hole.Carrier.out wrapped un_from un_to un_value bin_from bin_to bin_value load_to load_width loaded store_from stored
 table_get_past_the_end_traps = refl
 
-table_set : f_gives (three (record empty { funcs = code 0 (num 2 ∷ (i.RefFunc 0 ∷ (i.TableSet 0 ∷ (num 2 ∷ (i.TableGet 0 ∷ (i.RefIsNull ∷ [])))))) ∷ (code 1 (i.LocalGet 0 ∷ []) ∷ []); elems = record { mode = elem.Active 0 (const.I32 (pos 1)); ty = reft.Func; items = const.Func 1 ∷ [] } ∷ [] })) 25 ≡ returns (Number 0 ∷ [])
+table_set : f_gives (three (record empty { funcs = code 0 (num 2 ∷ (i.RefFunc 0 ∷ (i.TableSet 0 ∷ (num 2 ∷ (i.TableGet 0 ∷ (i.RefIsNull ∷ [])))))) ∷ (code 1 (i.LocalGet 0 ∷ []) ∷ []); elems = record { mode = elem.Active 0 (const.I32 (pos 1)); ty = reft.Func; items = const.Func 1 ∷ [] } ∷ [] })) 25
+    ≡ returns (Number 0 ∷ [])
 unfolding out-Instr denote.Hole.Carrier.out wrapped un_from un_to un_value bin_from bin_to bin_value load_to load_width loaded store_from stored
 table_set = refl
 
-table_set_past_the_end_traps : f_gives (three (record empty { funcs = code 0 (num 3 ∷ (i.RefFunc 0 ∷ (i.TableSet 0 ∷ (num 0 ∷ [])))) ∷ (code 1 (i.LocalGet 0 ∷ []) ∷ []); elems = record { mode = elem.Active 0 (const.I32 (pos 1)); ty = reft.Func; items = const.Func 1 ∷ [] } ∷ [] })) 25 ≡ Linked ∷ (Trapped ∷ [])
+table_set_past_the_end_traps : f_gives (three (record empty { funcs = code 0 (num 3 ∷ (i.RefFunc 0 ∷ (i.TableSet 0 ∷ (num 0 ∷ [])))) ∷ (code 1 (i.LocalGet 0 ∷ []) ∷ []); elems = record { mode = elem.Active 0 (const.I32 (pos 1)); ty = reft.Func; items = const.Func 1 ∷ [] } ∷ [] })) 25 ≡ Linked ∷
+    (Trapped ∷ [])
 unfolding out-Instr denote.Hole.Carrier.out wrapped un_from un_to un_value bin_from bin_to bin_value load_to load_width loaded store_from stored
 table_set_past_the_end_traps = refl
 
-table_fill_to_the_end : f_gives (three (record empty { funcs = code 0 (num 1 ∷ (i.RefFunc 0 ∷ (num 2 ∷ (i.TableFill 0 ∷ (num 2 ∷ (i.TableGet 0 ∷ (i.RefIsNull ∷ []))))))) ∷ (code 1 (i.LocalGet 0 ∷ []) ∷ []); elems = record { mode = elem.Active 0 (const.I32 (pos 1)); ty = reft.Func; items = const.Func 1 ∷ [] } ∷ [] })) 25 ≡ returns (Number 0 ∷ [])
+table_fill_to_the_end : f_gives (three (record empty {
+  funcs = code 0 (num 1 ∷ (i.RefFunc 0 ∷ (num 2 ∷ (i.TableFill 0 ∷ (num 2 ∷ (i.TableGet 0 ∷ (i.RefIsNull ∷ []))))))) ∷ (code 1 (i.LocalGet 0 ∷ []) ∷ []);
+  elems =
+      record { mode = elem.Active 0 (const.I32 (pos 1)); ty = reft.Func; items = const.Func 1 ∷ [] } ∷ [];
+})) 25 ≡ returns (Number 0 ∷ [])
 unfolding out-Instr denote.Hole.Carrier.out wrapped un_from un_to un_value bin_from bin_to bin_value load_to load_width loaded store_from stored
 table_fill_to_the_end = refl
 
-table_fill_past_the_end_traps : f_gives (three (record empty { funcs = code 0 (num 2 ∷ (i.RefFunc 0 ∷ (num 2 ∷ (i.TableFill 0 ∷ (num 0 ∷ []))))) ∷ (code 1 (i.LocalGet 0 ∷ []) ∷ []); elems = record { mode = elem.Active 0 (const.I32 (pos 1)); ty = reft.Func; items = const.Func 1 ∷ [] } ∷ [] })) 25 ≡ Linked ∷ (Trapped ∷ [])
+table_fill_past_the_end_traps : f_gives (three (record empty { funcs = code 0 (num 2 ∷ (i.RefFunc 0 ∷ (num 2 ∷ (i.TableFill 0 ∷ (num 0 ∷ []))))) ∷ (code 1 (i.LocalGet 0 ∷ []) ∷ []); elems = record { mode = elem.Active 0 (const.I32 (pos 1)); ty = reft.Func; items = const.Func 1 ∷ [] } ∷ [] })) 25 ≡
+    Linked ∷ (Trapped ∷ [])
 unfolding out-Instr denote.Hole.Carrier.out wrapped un_from un_to un_value bin_from bin_to bin_value load_to load_width loaded store_from stored
 table_fill_past_the_end_traps = refl
 
-table_copy_that_overlaps : f_gives (three (record empty { funcs = code 0 (num 2 ∷ (num 1 ∷ (num 1 ∷ (i.TableCopy 0 0 ∷ (num 2 ∷ (i.TableGet 0 ∷ (i.RefIsNull ∷ []))))))) ∷ (code 1 (i.LocalGet 0 ∷ []) ∷ []); elems = record { mode = elem.Active 0 (const.I32 (pos 1)); ty = reft.Func; items = const.Func 1 ∷ [] } ∷ [] })) 25 ≡ returns (Number 0 ∷ [])
+table_copy_that_overlaps : f_gives (three (record empty {
+  funcs = code 0 (num 2 ∷ (num 1 ∷ (num 1 ∷ (i.TableCopy 0 0 ∷ (num 2 ∷ (i.TableGet 0 ∷ (i.RefIsNull ∷ []))))))) ∷ (code 1 (i.LocalGet 0 ∷ []) ∷ []);
+  elems =
+      record { mode = elem.Active 0 (const.I32 (pos 1)); ty = reft.Func; items = const.Func 1 ∷ [] } ∷ [];
+})) 25 ≡ returns (Number 0 ∷ [])
 unfolding out-Instr denote.Hole.Carrier.out wrapped un_from un_to un_value bin_from bin_to bin_value load_to load_width loaded store_from stored
 table_copy_that_overlaps = refl
 
-table_init_of_a_dropped_segment_traps : f_gives (three (record empty { funcs = code 0 (num 0 ∷ (num 0 ∷ (num 1 ∷ (i.TableInit 0 0 ∷ (num 0 ∷ []))))) ∷ (code 1 (i.LocalGet 0 ∷ []) ∷ []); elems = record { mode = elem.Active 0 (const.I32 (pos 1)); ty = reft.Func; items = const.Func 1 ∷ [] } ∷ [] })) 25 ≡ Linked ∷ (Trapped ∷ [])
+table_init_of_a_dropped_segment_traps : f_gives (three (record empty { funcs = code 0 (num 0 ∷ (num 0 ∷ (num 1 ∷ (i.TableInit 0 0 ∷ (num 0 ∷ []))))) ∷ (code 1 (i.LocalGet 0 ∷ []) ∷ []); elems = record { mode = elem.Active 0 (const.I32 (pos 1)); ty = reft.Func; items = const.Func 1 ∷ [] } ∷ [] }))
+    25 ≡ Linked ∷ (Trapped ∷ [])
 unfolding out-Instr denote.Hole.Carrier.out wrapped un_from un_to un_value bin_from bin_to bin_value load_to load_width loaded store_from stored
 table_init_of_a_dropped_segment_traps = refl
 
-table_init_of_nothing : f_gives (three (record empty { funcs = code 0 (num 0 ∷ (num 0 ∷ (num 0 ∷ (i.TableInit 0 0 ∷ (num 4 ∷ []))))) ∷ (code 1 (i.LocalGet 0 ∷ []) ∷ []); elems = record { mode = elem.Active 0 (const.I32 (pos 1)); ty = reft.Func; items = const.Func 1 ∷ [] } ∷ [] })) 25 ≡ returns (Number 4 ∷ [])
+table_init_of_nothing : f_gives (three (record empty { funcs = code 0 (num 0 ∷ (num 0 ∷ (num 0 ∷ (i.TableInit 0 0 ∷ (num 4 ∷ []))))) ∷ (code 1 (i.LocalGet 0 ∷ []) ∷ []); elems = record { mode = elem.Active 0 (const.I32 (pos 1)); ty = reft.Func; items = const.Func 1 ∷ [] } ∷ [] })) 25 ≡
+    returns (Number 4 ∷ [])
 unfolding out-Instr denote.Hole.Carrier.out wrapped un_from un_to un_value bin_from bin_to bin_value load_to load_width loaded store_from stored
 table_init_of_nothing = refl
 
-table_grow_granted : events (plain (three (record empty { funcs = code 0 (i.RefNull reft.Func ∷ (num 1 ∷ (i.TableGrow 0 ∷ []))) ∷ (code 1 (i.LocalGet 0 ∷ []) ∷ []); elems = record { mode = elem.Active 0 (const.I32 (pos 1)); ty = reft.Func; items = const.Func 1 ∷ [] } ∷ [] }))) [] (Call f [] ∷ (Grant ∷ [])) 25 ≡ Linked ∷ (GrowAsked Tables 3 1 ∷ (Returned (Number 3 ∷ []) ∷ []))
+table_grow_granted : events (plain (three (record empty { funcs = code 0 (i.RefNull reft.Func ∷ (num 1 ∷ (i.TableGrow 0 ∷ []))) ∷ (code 1 (i.LocalGet 0 ∷ []) ∷ []); elems = record { mode = elem.Active 0 (const.I32 (pos 1)); ty = reft.Func; items = const.Func 1 ∷ [] } ∷ [] }))) []
+    (Call f [] ∷ (Grant ∷ [])) 25 ≡ Linked ∷ (GrowAsked Tables 3 1 ∷ (Returned (Number 3 ∷ []) ∷ []))
 unfolding out-Instr denote.Hole.Carrier.out wrapped un_from un_to un_value bin_from bin_to bin_value load_to load_width loaded store_from stored
 table_grow_granted = refl
 
-table_grow_past_the_maximum : f_gives (three (record empty { funcs = code 0 (i.RefNull reft.Func ∷ (num 2 ∷ (i.TableGrow 0 ∷ []))) ∷ (code 1 (i.LocalGet 0 ∷ []) ∷ []); elems = record { mode = elem.Active 0 (const.I32 (pos 1)); ty = reft.Func; items = const.Func 1 ∷ [] } ∷ [] })) 25 ≡ returns (Number 4294967295 ∷ [])
+table_grow_past_the_maximum : f_gives (three (record empty { funcs = code 0 (i.RefNull reft.Func ∷ (num 2 ∷ (i.TableGrow 0 ∷ []))) ∷ (code 1 (i.LocalGet 0 ∷ []) ∷ []); elems = record { mode = elem.Active 0 (const.I32 (pos 1)); ty = reft.Func; items = const.Func 1 ∷ [] } ∷ [] })) 25 ≡
+    returns (Number 4294967295 ∷ [])
 unfolding out-Instr denote.Hole.Carrier.out wrapped un_from un_to un_value bin_from bin_to bin_value load_to load_width loaded store_from stored
 table_grow_past_the_maximum = refl
 
@@ -362,7 +377,8 @@ memory_fill_of_nothing_at_the_end : f_gives (page (gives (num 65536 ∷ (num 7 �
 unfolding out-Instr denote.Hole.Carrier.out wrapped un_from un_to un_value bin_from bin_to bin_value load_to load_width loaded store_from stored
 memory_fill_of_nothing_at_the_end = refl
 
-memory_copy_that_overlaps : f_gives (record (page (gives (num 1 ∷ (num 0 ∷ (num 3 ∷ (i.MemoryCopy 0 0 ∷ (num 3 ∷ (i.Load load.I32Load8U (record { align = 0; offset = 0; memory = 0 }) ∷ [])))))))) { datas = record { mode = data'.Active 0 (const.I32 (pos 0)); bytes = 5 ∷ (6 ∷ (7 ∷ [])) } ∷ [] }) 25 ≡ returns (Number 7 ∷ [])
+memory_copy_that_overlaps : f_gives (record (page (gives (num 1 ∷ (num 0 ∷ (num 3 ∷ (i.MemoryCopy 0 0 ∷ (num 3 ∷ (i.Load load.I32Load8U (record { align = 0; offset = 0; memory = 0 }) ∷ [])))))))) { datas = record { mode = data'.Active 0 (const.I32 (pos 0)); bytes = 5 ∷ (6 ∷ (7 ∷ [])) } ∷ [] }) 25 ≡
+    returns (Number 7 ∷ [])
 unfolding out-Instr denote.Hole.Carrier.out wrapped un_from un_to un_value bin_from bin_to bin_value load_to load_width loaded store_from stored
 memory_copy_that_overlaps = refl
 
@@ -418,7 +434,9 @@ a_start_that_traps : events (plain (record empty { funcs = code 2 (i.Unreachable
 unfolding out-Instr denote.Hole.Carrier.out wrapped un_from un_to un_value bin_from bin_to bin_value load_to load_width loaded store_from stored
 a_start_that_traps = refl
 
-a_start_comes_before_the_view : events (alone (record (page (gives (num 0 ∷ (i.Load load.I32Load8U (record { align = 0; offset = 0; memory = 0 }) ∷ [])))) { funcs = code 0 (num 0 ∷ (i.Load load.I32Load8U (record { align = 0; offset = 0; memory = 0 }) ∷ [])) ∷ (code 2 (num 0 ∷ (num 9 ∷ (i.Store store.I32Store8 (record { align = 0; offset = 0; memory = 0 }) ∷ []))) ∷ []); start = Some 1 })) [] (Call f [] ∷ (Get (Named m) 0 ∷ (Size (Named m) ∷ (Set (Named m) 0 (Number 256) ∷ (Set (Named m) 0 (Number 255) ∷ (Get (Named m) 0 ∷ [])))))) 40 ≡ Linked ∷ (Returned (Number 9 ∷ []) ∷ (Got (Number 9) ∷ (Got (Number 1) ∷ (BadMove ∷ (Done ∷ (Got (Number 255) ∷ []))))))
+a_start_comes_before_the_view : events (alone (record (page (gives (num 0 ∷ (i.Load load.I32Load8U (record { align = 0; offset = 0; memory = 0 }) ∷ []))))
+    { funcs = code 0 (num 0 ∷ (i.Load load.I32Load8U (record { align = 0; offset = 0; memory = 0 }) ∷ [])) ∷ (code 2 (num 0 ∷ (num 9 ∷ (i.Store store.I32Store8 (record { align = 0; offset = 0; memory = 0 }) ∷ []))) ∷ []); start = Some 1 })) []
+    (Call f [] ∷ (Get (Named m) 0 ∷ (Size (Named m) ∷ (Set (Named m) 0 (Number 256) ∷ (Set (Named m) 0 (Number 255) ∷ (Get (Named m) 0 ∷ [])))))) 40 ≡ Linked ∷ (Returned (Number 9 ∷ []) ∷ (Got (Number 9) ∷ (Got (Number 1) ∷ (BadMove ∷ (Done ∷ (Got (Number 255) ∷ []))))))
 unfolding out-Instr denote.Hole.Carrier.out wrapped un_from un_to un_value bin_from bin_to bin_value load_to load_width loaded store_from stored
 a_start_comes_before_the_view = refl
 
@@ -446,19 +464,24 @@ imports_without_an_end : events (record { parts = record { name = Some a; «modu
 unfolding out-Instr denote.Hole.Carrier.out wrapped un_from un_to un_value bin_from bin_to bin_value load_to load_width loaded store_from stored
 imports_without_an_end = refl
 
-own_entities_stay_after_a_link_fault : events calling (record { pair = (e, m); funcs = []; table = None; memory = None; global = Some (record { ty = record { ty = i32; mutable = true }; value = Number 3 }) } ∷ []) (Get (GlobalOf (e, m)) 0 ∷ (Set (GlobalOf (e, m)) 0 (Number 4) ∷ (Get (GlobalOf (e, m)) 0 ∷ []))) 25 ≡ LinkFault ∷ (Got (Number 3) ∷ (Done ∷ (Got (Number 4) ∷ [])))
+own_entities_stay_after_a_link_fault : events calling (record { pair = (e, m); funcs = []; table = None; memory = None; global = Some (record { ty = record { ty = i32; mutable = true }; value = Number 3 }) } ∷ [])
+    (Get (GlobalOf (e, m)) 0 ∷ (Set (GlobalOf (e, m)) 0 (Number 4) ∷ (Get (GlobalOf (e, m)) 0 ∷ []))) 25 ≡ LinkFault ∷ (Got (Number 3) ∷ (Done ∷ (Got (Number 4) ∷ [])))
 unfolding out-Instr denote.Hole.Carrier.out wrapped un_from un_to un_value bin_from bin_to bin_value load_to load_width loaded store_from stored
 own_entities_stay_after_a_link_fault = refl
 
-a_memory_of_the_right_size : events (plain (record (gives (num 1 ∷ [])) { imports = record { «module» = e; field = m; desc = im.Memory (record { min = 0; max = Some 3 }) } ∷ [] })) (record { pair = (e, m); funcs = []; table = None; memory = Some (record { limits = record { min = 0; max = Some 3 }; pages = 0; bytes = [] }); global = None } ∷ []) (Call f [] ∷ (Size (MemoryOf (e, m)) ∷ (Get (MemoryOf (e, m)) 0 ∷ []))) 25 ≡ Linked ∷ (Returned (Number 1 ∷ []) ∷ (Got (Number 0) ∷ (BadMove ∷ [])))
+a_memory_of_the_right_size : events (plain (record (gives (num 1 ∷ [])) { imports = record { «module» = e; field = m; desc = im.Memory (record { min = 0; max = Some 3 }) } ∷ [] }))
+    (record { pair = (e, m); funcs = []; table = None; memory = Some (record { limits = record { min = 0; max = Some 3 }; pages = 0; bytes = [] }); global = None } ∷ []) (Call f [] ∷ (Size (MemoryOf (e, m)) ∷ (Get (MemoryOf (e, m)) 0 ∷ []))) 25 ≡ Linked ∷
+    (Returned (Number 1 ∷ []) ∷ (Got (Number 0) ∷ (BadMove ∷ [])))
 unfolding out-Instr denote.Hole.Carrier.out wrapped un_from un_to un_value bin_from bin_to bin_value load_to load_width loaded store_from stored
 a_memory_of_the_right_size = refl
 
-a_memory_that_is_too_small : events (plain (record (gives (num 1 ∷ [])) { imports = record { «module» = e; field = m; desc = im.Memory (record { min = 1; max = None }) } ∷ [] })) (record { pair = (e, m); funcs = []; table = None; memory = Some (record { limits = record { min = 0; max = Some 3 }; pages = 0; bytes = [] }); global = None } ∷ []) [] 25 ≡ LinkFault ∷ []
+a_memory_that_is_too_small : events (plain (record (gives (num 1 ∷ [])) { imports = record { «module» = e; field = m; desc = im.Memory (record { min = 1; max = None }) } ∷ [] }))
+    (record { pair = (e, m); funcs = []; table = None; memory = Some (record { limits = record { min = 0; max = Some 3 }; pages = 0; bytes = [] }); global = None } ∷ []) [] 25 ≡ LinkFault ∷ []
 unfolding out-Instr denote.Hole.Carrier.out wrapped un_from un_to un_value bin_from bin_to bin_value load_to load_width loaded store_from stored
 a_memory_that_is_too_small = refl
 
-a_memory_that_may_grow_too_far : events (plain (record (gives (num 1 ∷ [])) { imports = record { «module» = e; field = m; desc = im.Memory (record { min = 0; max = Some 2 }) } ∷ [] })) (record { pair = (e, m); funcs = []; table = None; memory = Some (record { limits = record { min = 0; max = Some 3 }; pages = 0; bytes = [] }); global = None } ∷ []) [] 25 ≡ LinkFault ∷ []
+a_memory_that_may_grow_too_far : events (plain (record (gives (num 1 ∷ [])) { imports = record { «module» = e; field = m; desc = im.Memory (record { min = 0; max = Some 2 }) } ∷ [] }))
+    (record { pair = (e, m); funcs = []; table = None; memory = Some (record { limits = record { min = 0; max = Some 3 }; pages = 0; bytes = [] }); global = None } ∷ []) [] 25 ≡ LinkFault ∷ []
 unfolding out-Instr denote.Hole.Carrier.out wrapped un_from un_to un_value bin_from bin_to bin_value load_to load_width loaded store_from stored
 a_memory_that_may_grow_too_far = refl
 

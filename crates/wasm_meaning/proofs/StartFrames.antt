@@ -4,7 +4,11 @@ use Rattle.base_lists.specs.Related.{OptRel, none, some}
 use Rattle.base_lists.proofs.Related.{either_rel}
 use Rattle.wasm_tree_spec.specs.Prelude.{ValType, FuncType}
 use Rattle.wasm_num.specs.Operations.{W32}
-use Rattle.wasm_meaning.specs.Prelude.{Outcome, Gives, bind, overwrite, or_ill_typed, Pair, FuncRef, Val, Num, Ref, Func, Code, Own, Placeholder, Store, Change, Keep, SetGlobal, SetMemory, SetTable, DropElem, DropData, Growth, GrowMemory, GrowTable, Level, Frame, Entry, Running, Caller, Host, Starter, Mark, Opening, Waiting, Ended, Growing, Act, Goes, Calls, AsksGrow, Ends, Next, Ran, CallsOwn, WaitsGrowth, CallsPlaceholder, EndsCall, pop_typed, null_of, with_values, memory_may_grow, table_may_grow, type_at, act, frame_of, give_levels, give, enter, enter_at, changed, perform, to_mark, Shown, ExternalValue, FuncAt, TableAt, MemoryAt, GlobalAt, func_of, received, received_ref, received_all, Move, Call, Invoke, Take, Answer, Refuse, Grant, Deny, Get, Size, Set, Extend, Phase, Run, Out, Transition, Steps, Makes, made, viewed_at, place_at, show_all, trapped_to, run_after, called, is_mark, delivered, answered, refused, grown_table, granted, decided, shows, got, size_of, does, byte_of, set, extended, moved, at_entries, or_bad, next_move, tick, IsBottom, GivesNothing, a_frame, a_call, over, AgreeOnFrames, ended, trapped, ResRel, done, trap, wrong}
+use Rattle.wasm_meaning.specs.Prelude.{Outcome, Gives, bind, overwrite, or_ill_typed, Pair, FuncRef, Val, Num, Ref, Func, Code, Own, Placeholder, Store, Change, Keep, SetGlobal, SetMemory, SetTable, DropElem, DropData, Growth, GrowMemory, GrowTable, Level, Frame, Entry, Running, Caller, Host}
+use Rattle.wasm_meaning.specs.Prelude.{Starter, Mark, Opening, Waiting, Ended, Growing, Act, Goes, Calls, AsksGrow, Ends, Next, Ran, CallsOwn, WaitsGrowth, CallsPlaceholder, EndsCall, pop_typed, null_of, with_values, memory_may_grow, table_may_grow, type_at, act, frame_of, give_levels, give, enter}
+use Rattle.wasm_meaning.specs.Prelude.{enter_at, changed, perform, to_mark, Shown, ExternalValue, FuncAt, TableAt, MemoryAt, GlobalAt, func_of, received, received_ref, received_all, Move, Call, Invoke, Take, Answer, Refuse, Grant, Deny, Get, Size, Set, Extend, Phase, Run, Out, Transition, Steps}
+use Rattle.wasm_meaning.specs.Prelude.{Makes, made, viewed_at, place_at, show_all, trapped_to, run_after, called, is_mark, delivered, answered, refused, grown_table, granted, decided, shows, got, size_of, does, byte_of, set, extended, moved, at_entries, or_bad, next_move, tick, IsBottom}
+use Rattle.wasm_meaning.specs.Prelude.{GivesNothing, a_frame, a_call, over, AgreeOnFrames, ended, trapped, ResRel, done, trap, wrong}
 use Rattle.wasm_meaning.proofs.Outcomes.{bind_same}
 use Rattle.wasm_meaning.specs.Run.{show, grown_memory}
 use Rattle.wasm_meaning.specs.StartFrames.{goes_on}

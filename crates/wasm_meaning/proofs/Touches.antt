@@ -4,7 +4,10 @@ use Rattle.wasm_tree_spec.specs.Prelude.{Instr, out-Instr, StoreOp, ValType, Blo
 use Rattle.wasm_tree.specs.declared.instr.Instr.TheOpen.{Instr-F}
 use Rattle.wasm_tree.specs.declared.instr.StoreOp.TheVariants as op
 use Rattle.wasm_num.specs.Operations.{W32}
-use Rattle.wasm_meaning.specs.Prelude.{Outcome, Gives, IllTyped, bind, split_at, slice, overwrite, copies, or_trap, with_entry, Val, Num, Ref, FuncRef, RefVal, Table, Memory, Global, Level, Env, Body, Keep, SetGlobal, Act, Goes, typed, pop, pop_num, pop_ref, pop_typed, pushes, on_values, with_values, local_put, global_put, unary, binary, ref_is_null, select_any, select_typed, written, writes, store_into, load_from, grow_memory, memory_may_grow, init_memory, fill_memory, pop_three, with_memory, fits, writes_table, get_slot, set_slot, grow_table, table_may_grow, fill_table, init_table, with_table, call_slot, func_ref, type_at, resume, end_level, branch, level_here, open_level, shape_of, open_block, exec, step_code, step_levels, Touched, Nothing, Bytes, Slots, OneGlobal, touched_by, touched_next, touched_levels, a_global, ActWrites, StepsWriteWhatTheyTouch}
+use Rattle.wasm_meaning.specs.Prelude.{Outcome, Gives, IllTyped, bind, split_at, slice, overwrite, copies, or_trap, with_entry, Val, Num, Ref, FuncRef, RefVal, Table, Memory, Global, Level, Env, Body, Keep, SetGlobal, Act, Goes, typed, pop, pop_num, pop_ref, pop_typed, pushes, on_values}
+use Rattle.wasm_meaning.specs.Prelude.{with_values, local_put, global_put, unary, binary, ref_is_null, select_any, select_typed, written, writes, store_into, load_from, grow_memory, memory_may_grow, init_memory, fill_memory, pop_three, with_memory, fits, writes_table, get_slot, set_slot, grow_table}
+use Rattle.wasm_meaning.specs.Prelude.{table_may_grow, fill_table, init_table, with_table, call_slot, func_ref, type_at, resume, end_level, branch, level_here, open_level, shape_of, open_block, exec, step_code, step_levels, Touched, Nothing, Bytes, Slots, OneGlobal, touched_by, touched_next}
+use Rattle.wasm_meaning.specs.Prelude.{touched_levels, a_global, ActWrites, StepsWriteWhatTheyTouch}
 use Rattle.wasm_meaning.specs.Access.{store_from, stored, little_bytes}
 use Rattle.wasm_meaning.specs.Touched.{OneElem, OneData, store_touches, range_touches, slot_touches, fill_touches, nothing, bytes, slots, an_elem, a_data, WritesTold}
 use Rattle.wasm_meaning.proofs.Outcomes.{AllOf, ill_typed, stopped, just, cond_all, with_is, with_found, with_within, then_given, then_found, all_at}

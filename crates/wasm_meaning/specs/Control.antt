@@ -42,7 +42,8 @@ call_checked h vs a f t = cond (same_func_type t f) (Gives (Calls a vs h)) Traps
 
 abbrev pub call_slot : Env → Body → ℕ → Table → Outcome Act
 call_slot env h ty t =
-    bind (pop_num W32 h.values) (λ i. bind (or_trap (slice_get t.slots i.0)) (λ r. bind (func_ref r) (λ a. bind (or_ill_typed (type_at env.store a)) (λ f. with_entry env.inst.types ty (call_checked h i.1 a f)))))
+    bind (pop_num W32 h.values) (λ i. bind (or_trap (slice_get t.slots i.0))
+    (λ r. bind (func_ref r) (λ a. bind (or_ill_typed (type_at env.store a)) (λ f. with_entry env.inst.types ty (call_checked h i.1 a f)))))
 
 abbrev pub call_indirect : Env → Body → (ty table : ℕ) → Outcome Act
 call_indirect env h ty table = with_table env table (λ a t. call_slot env h ty t)

@@ -91,7 +91,8 @@ is_table env t = is_within (length t.entries) t.limits && ((nat_lt (length t.ent
 -- The size and both limits of a memory are at most 65,536 pages.
 abbrev pub is_memory : OwnMemory → Bool
 is_memory m =
-    is_within m.pages m.limits && (where_there (λ most. nat_le most 65536) m.limits.max && (nat_le m.pages 65536 && ((nat_eq (length m.bytes) (65536 * m.pages)) && all_of (λ b. nat_lt b 256) m.bytes)))
+    is_within m.pages m.limits && (where_there (λ most. nat_le most 65536) m.limits.max &&
+    (nat_le m.pages 65536 && ((nat_eq (length m.bytes) (65536 * m.pages)) && all_of (λ b. nat_lt b 256) m.bytes)))
 
 abbrev pub is_global : Environment → OwnGlobal → Bool
 is_global env g = is_value env g.ty.ty g.value

@@ -72,7 +72,8 @@ primary_added env w = added_with (supplied env w) (store_under env w) w.primary
 
 abbrev pub begun_of : Environment → LoaderWorld → Added → Option Begun
 begun_of env w a =
-    all_there (λ v. address_in a.inst v.1 >>= λ x. Some (v.0, x)) w.view >>= λ view. Some (record { store = a.filled.store; trapped = a.filled.trapped; starts = start_in a.inst w.primary.start; view = view; owned = owned_of env })
+    all_there (λ v. address_in a.inst v.1 >>= λ x. Some (v.0, x)) w.view >>= λ view.
+    Some (record { store = a.filled.store; trapped = a.filled.trapped; starts = start_in a.inst w.primary.start; view = view; owned = owned_of env })
 
 -- The instantiation of the primary module, which is one step.
 abbrev pub begun_under : Environment → LoaderWorld → Option Begun

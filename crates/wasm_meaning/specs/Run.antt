@@ -7,14 +7,16 @@ use Rattle.std.specs.Prelude.{nat_lt, nat_eq, IsTrue}
 use Rattle.wasm_num.specs.Operations.{W32}
 use Rattle.base_lists.specs.Options.{◌>>=◌}
 use Rattle.wasm_meaning.specs.Outcomes.{Outcome, Gives, Traps, IllTyped, overwrite, copies}
-use Rattle.wasm_meaning.specs.State.{Text, Pair, RefVal, FuncRef, ExternRef, Val, Num, Ref, Table, Memory, Store, Change, SetGlobal, SetMemory, SetTable, Growth, GrowMemory, GrowTable, Entry, Running, Caller, Host, Starter, Mark, Opening, Waiting, Ended, Growing, Next, Ran, CallsOwn, WaitsGrowth, CallsPlaceholder, EndsCall}
+use Rattle.wasm_meaning.specs.State.{Text, Pair, RefVal, FuncRef, ExternRef, Val, Num, Ref, Table, Memory, Store, Change, SetGlobal, SetMemory, SetTable, Growth, GrowMemory, GrowTable, Entry, Running}
+use Rattle.wasm_meaning.specs.State.{Caller, Host, Starter, Mark, Opening, Waiting, Ended, Growing, Next, Ran, CallsOwn, WaitsGrowth, CallsPlaceholder, EndsCall}
 use Rattle.wasm_meaning.specs.Values.{null_of}
 use Rattle.wasm_meaning.specs.Memory.{memory_may_grow}
 use Rattle.wasm_meaning.specs.Tables.{table_may_grow}
 use Rattle.wasm_meaning.specs.Control.{type_at, own_at}
 use Rattle.wasm_meaning.specs.Step.{give, enter_at, step, to_mark, changed}
 use Rattle.wasm_meaning.specs.Linking.{same_text}
-use Rattle.wasm_meaning.specs.Environment.{Environment, is_environment, owned_of, Shown, Number, Null, OwnFunc, ExternNumber, Function, ExternalValue, FuncAt, TableAt, MemoryAt, GlobalAt, TableKey, MemoryKey, GlobalKey, Owned, owned_at, look_up, func_of, received, received_ref, received_all}
+use Rattle.wasm_meaning.specs.Environment.{Environment, is_environment, owned_of, Shown, Number, Null, OwnFunc, ExternNumber, Function, ExternalValue, FuncAt, TableAt, MemoryAt, GlobalAt, TableKey}
+use Rattle.wasm_meaning.specs.Environment.{MemoryKey, GlobalKey, Owned, owned_at, look_up, func_of, received, received_ref, received_all}
 use Rattle.wasm_meaning.specs.World.{World, Begun, own_store, instantiate}
 
 -- ---- events and moves ----

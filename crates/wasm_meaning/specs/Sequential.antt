@@ -10,7 +10,8 @@ use Rattle.wasm_tree.specs.declared.module.DataMode.TheVariants as data'
 use Rattle.wasm_meaning.specs.State.{Text, Val, Inst, Store, Opening, Entry}
 use Rattle.wasm_meaning.specs.Linking.{Part, Entity, is_named, export_named, module_at, joined}
 use Rattle.wasm_meaning.specs.Environment.{Environment, ExternalValue, Owned, owned_at, any_of}
-use Rattle.wasm_meaning.specs.World.{World, Begun, Filled, own_key, address_of, address_in, seen_as, all_there, numbers, const_value, store_with, joined_stores, is_match, segments_in, run_elem_with, run_data_with, one_by_one, and_then, start_in, instantiate}
+use Rattle.wasm_meaning.specs.World.{World, Begun, Filled, own_key, address_of, address_in, seen_as, all_there, numbers, const_value, store_with, joined_stores, is_match, segments_in, run_elem_with}
+use Rattle.wasm_meaning.specs.World.{run_data_with, one_by_one, and_then, start_in, instantiate}
 use Rattle.wasm_meaning.specs.Run.{Run, Pending, Closed, Event, LinkFault, InstanceTrapped, Move, Out, fresh_run, tick, events_of}
 
 -- ---- one module, in a store that holds others already ----
@@ -41,7 +42,8 @@ all_match s m _ _ = false
 -- not used.)
 abbrev pub own_segments : (ConstExpr → Option Val) → Module → Inst → Store → Filled
 own_segments value m i s =
-    and_then (one_by_one (λ s task. run_elem_with value s task task.segment.mode) s (segments_in 0 i i.elems m.elems)) (λ s. one_by_one (λ s task. run_data_with value s task task.segment.mode) s (segments_in 0 i i.datas m.datas))
+    and_then (one_by_one (λ s task. run_elem_with value s task task.segment.mode) s (segments_in 0 i i.elems m.elems))
+    (λ s. one_by_one (λ s task. run_data_with value s task task.segment.mode) s (segments_in 0 i i.datas m.datas))
 
 -- A module's instance, and the store after its segments.
 pub record Added : Type 0 where

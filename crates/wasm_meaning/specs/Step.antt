@@ -4,8 +4,10 @@ use Rattle.wasm_tree_spec.specs.Prelude.{Instr, out-Instr}
 use Rattle.wasm_tree.specs.declared.instr.Instr.TheOpen.{Instr-F}
 use Rattle.wasm_meaning.specs.Outcomes.{Outcome, Gives, Traps, IllTyped, bind, onto, or_ill_typed, with_entry}
 use Rattle.wasm_num.specs.Operations.{W32, W64, wrapped}
-use Rattle.wasm_meaning.specs.State.{Val, Num, Ref, Func, Code, Own, Placeholder, Elem, Data, Store, Change, Keep, SetGlobal, SetMemory, SetTable, DropElem, DropData, Level, Frame, Entry, Running, Caller, Host, Starter, Mark, Opening, Waiting, Growing, Env, Body, Act, Goes, Calls, AsksGrow, Ends, Next, Ran, CallsOwn, WaitsGrowth, CallsPlaceholder, EndsCall}
-use Rattle.wasm_meaning.specs.Values.{pop, pop_typed, zeros, null_of, unary, binary, ref_is_null, select_any, select_typed, go, with_values, on_values, pushes, local_get, local_set, local_tee, global_get, global_set, ref_func}
+use Rattle.wasm_meaning.specs.State.{Val, Num, Ref, Func, Code, Own, Placeholder, Elem, Data, Store, Change, Keep, SetGlobal, SetMemory, SetTable, DropElem, DropData, Level, Frame, Entry, Running}
+use Rattle.wasm_meaning.specs.State.{Caller, Host, Starter, Mark, Opening, Waiting, Growing, Env, Body, Act, Goes, Calls, AsksGrow, Ends, Next, Ran, CallsOwn, WaitsGrowth, CallsPlaceholder, EndsCall}
+use Rattle.wasm_meaning.specs.Values.{pop, pop_typed, zeros, null_of, unary, binary, ref_is_null, select_any, select_typed, go, with_values, on_values, pushes, local_get, local_set, local_tee}
+use Rattle.wasm_meaning.specs.Values.{global_get, global_set, ref_func}
 use Rattle.wasm_meaning.specs.Memory.{load, store, memory_size, memory_grow, memory_init, data_drop, memory_copy, memory_fill}
 use Rattle.wasm_meaning.specs.Tables.{table_get, table_set, table_size, table_grow, table_fill, table_copy, table_init, elem_drop}
 use Rattle.wasm_meaning.specs.Control.{type_at, call, call_indirect, finish, end_level, branch, branch_if, branch_table, open_block, open_loop, open_if}
@@ -87,7 +89,8 @@ give s vs _ = IllTyped
 -- Begins a function, on top of the entries that wait for it.
 abbrev pub enter : Store → Func → List Val → List Entry → Next
 enter s (Code t i ls c) args es =
-    Ran s (Running (record { inst = i; locals = args ++ zeros ls; results = t.results; levels = record { values = []; code = c; gives = length t.results; takes = length t.results; back = [] } ∷ [] }) ∷ es)
+    Ran s (Running (record { inst = i; locals = args ++ zeros ls; results = t.results; levels = record { values = []; code = c; gives = length t.results; takes = length t.results; back = [] } ∷ [] })
+    ∷ es)
 enter s (Own p t) args es = CallsOwn p t args s (Waiting t.results ∷ es)
 enter s (Placeholder n t) args es = CallsPlaceholder n args s es
 

@@ -38,7 +38,8 @@ table_may_grow t count = (nat_lt (length t.slots + count) (2 ^ 32)) && (below_mo
 
 abbrev pub grow_table : Body → ℕ → Table → Outcome Act
 grow_table h a t =
-    bind (pop_num W32 h.values) (λ n. bind (pop_ref n.1) (λ r. bind (fits t r.0) (λ v. cond (table_may_grow t n.0) (Gives (AsksGrow (GrowTable a n.0 v) (length t.slots) n.0 (with_values h r.1))) (pushes (with_values h r.1) (Num W32 4294967295)))))
+    bind (pop_num W32 h.values) (λ n. bind (pop_ref n.1) (λ r. bind (fits t r.0)
+    (λ v. cond (table_may_grow t n.0) (Gives (AsksGrow (GrowTable a n.0 v) (length t.slots) n.0 (with_values h r.1))) (pushes (with_values h r.1) (Num W32 4294967295)))))
 
 abbrev pub table_grow : Env → Body → ℕ → Outcome Act
 table_grow env h i = with_table env i (grow_table h)

@@ -71,8 +71,10 @@ touched s f = touched_levels (record { store = s; inst = f.inst }) f.levels
 pub data Writes (s : Store) : Touched → Change → Type 0 where
   nothing : Writes s Nothing Keep
   a_global : {a : ℕ} {g h : Global} → slice_get s.globals a ≡ Some g → g.ty.mutable ≡ true → h.ty ≡ g.ty → Writes s (OneGlobal a) (SetGlobal a h)
-  bytes : {a place : ℕ} {m n : Memory} (written : List ℕ) → slice_get s.mems a ≡ Some m → overwrite m.bytes place written ≡ Some n.bytes → n.pages ≡ m.pages → n.most ≡ m.most → Writes s (Bytes a place (length written)) (SetMemory a n)
-  slots : {a place : ℕ} {t u : Table} (written : List RefVal) → slice_get s.tables a ≡ Some t → overwrite t.slots place written ≡ Some u.slots → u.ty ≡ t.ty → u.most ≡ t.most → Writes s (Slots a place (length written)) (SetTable a u)
+  bytes : {a place : ℕ} {m n : Memory} (written : List ℕ) → slice_get s.mems a ≡ Some m → overwrite m.bytes place written ≡ Some n.bytes → n.pages ≡ m.pages → n.most ≡ m.most →
+      Writes s (Bytes a place (length written)) (SetMemory a n)
+  slots : {a place : ℕ} {t u : Table} (written : List RefVal) → slice_get s.tables a ≡ Some t → overwrite t.slots place written ≡ Some u.slots → u.ty ≡ t.ty → u.most ≡ t.most →
+      Writes s (Slots a place (length written)) (SetTable a u)
   an_elem : {a : ℕ} → Writes s (OneElem a) (DropElem a)
   a_data : {a : ℕ} → Writes s (OneData a) (DropData a)
 

@@ -2,7 +2,8 @@
 -- together). Every import is matched and everything is allocated; then all active element segments
 -- are copied, part by part, and then all active data segments, part by part.
 use Rattle.std.proofs.Common.{ℕ, zero, suc, ◌+◌, ◌-◌, ◌*◌, List, [], ◌∷◌, ◌++◌, map, length, Option, Some, None, is_some, Bool, true, false, cond, slice_get, unwrap_or, ◌&&◌}
-use Rattle.wasm_tree_spec.specs.Prelude.{Space, Types, Functions, Tables, Memories, Globals, ElementSegments, DataSegments, FuncType, Limits, Import, ImportDesc, ExportDesc, ConstExpr, GlobalDef, ElemSeg, ElemMode, DataSeg, DataMode, Module, same_func_type, same_ref, same_type, index_of_export, space_of_export}
+use Rattle.wasm_tree_spec.specs.Prelude.{Space, Types, Functions, Tables, Memories, Globals, ElementSegments, DataSegments, FuncType, Limits, Import, ImportDesc, ExportDesc, ConstExpr, GlobalDef}
+use Rattle.wasm_tree_spec.specs.Prelude.{ElemSeg, ElemMode, DataSeg, DataMode, Module, same_func_type, same_ref, same_type, index_of_export, space_of_export}
 use Rattle.base_lists.specs.Options.{◌>>=◌}
 pub use Rattle.base_lists.specs.Options.{all_there}
 pub use Rattle.base_lists.specs.Places.{numbers}
@@ -20,7 +21,8 @@ use Rattle.wasm_meaning.specs.Values.{null_of, declared, ref_of, num_of}
 use Rattle.wasm_meaning.specs.Control.{type_at}
 use Rattle.wasm_meaning.specs.Step.{changed, no_items}
 use Rattle.wasm_meaning.specs.Linking.{Part, Site, End, Defined, Outside, Entity, Read, module_at, import_at, imports_of, pair_of, end_of, read_of, sites}
-use Rattle.wasm_meaning.specs.Environment.{Environment, ExternalValue, FuncAt, TableAt, MemoryAt, GlobalAt, OwnKey, FuncKey, TableKey, MemoryKey, GlobalKey, Owned, owned_of, owned_at, own_funcs, own_tables, own_memories, own_globals, all_of}
+use Rattle.wasm_meaning.specs.Environment.{Environment, ExternalValue, FuncAt, TableAt, MemoryAt, GlobalAt, OwnKey, FuncKey, TableKey, MemoryKey, GlobalKey, Owned, owned_of, owned_at, own_funcs}
+use Rattle.wasm_meaning.specs.Environment.{own_tables, own_memories, own_globals, all_of}
 
 -- Modules whose imports are joined by name, and the view: the names under which the embedder sees
 -- entities.

@@ -8,7 +8,8 @@
 ghost use Rattle.wasm_meaning.specs.StartFrames.{StartDependsOnlyOnItsFrames};
 ghost use Rattle.wasm_meaning.specs.Touched.{StepsWriteWhatTheyTouch};
 ghost use Rattle.wasm_meaning.specs.Counted.{EachPartAddsItsDefinitions, FoundExportsAreThere, NoPartDefinesMoreThanAll, NothingIsDefinedBeforeTheFirst};
-ghost use Rattle.wasm_meaning.specs.Laws.{EndsArePaths, LoadedRunsAreDetermined, ReadsArePaths, RunsAreDetermined, SequentialRunsAreDetermined, ShorterLoadedRunsArePrefixes, ShorterRunsArePrefixes, ShorterSequentialRunsArePrefixes};
+ghost use Rattle.wasm_meaning.specs.Laws.{EndsArePaths, LoadedRunsAreDetermined, ReadsArePaths, RunsAreDetermined, SequentialRunsAreDetermined, ShorterLoadedRunsArePrefixes, ShorterRunsArePrefixes};
+ghost use Rattle.wasm_meaning.specs.Laws.{ShorterSequentialRunsArePrefixes};
 
 /// States that a run is determined by its world, its environment, the embedder's moves and the
 /// number of steps: a run of a world that is instantiated at once (`determined`) or sequentially

@@ -1,7 +1,8 @@
 -- The integer operations, as formulas over whole numbers (WebAssembly Core 2.0, section 4.3.2; wrap
 -- and extend_i32 are in section 4.3.4). An operand of w bits is a number below 2 ^ w, which is read
 -- with its sign if the operation is signed.
-use Rattle.std.specs.Prelude.{ℕ, zero, suc, ◌+◌, ◌-◌, ◌*◌, ◌/◌, ◌%◌, ◌^◌, Option, Some, None, Result, Ok, Err, Bool, if◌then◌else◌, nat_eq, nat_lt, nat_le, not, ℤ, pos, negsuc, ◌-ℤ◌, int_lt, int_le, int_div, int_rem, bit_and, bit_or, bit_xor}
+use Rattle.std.specs.Prelude.{ℕ, zero, suc, ◌+◌, ◌-◌, ◌*◌, ◌/◌, ◌%◌, ◌^◌, Option, Some, None, Result, Ok, Err, Bool, if◌then◌else◌, nat_eq, nat_lt, nat_le, not, ℤ, pos, negsuc, ◌-ℤ◌, int_lt, int_le}
+use Rattle.std.specs.Prelude.{int_div, int_rem, bit_and, bit_or, bit_xor}
 use Rattle.wasm_num.specs.declared.Num.{Num}
 use Rattle.wasm_num.specs.declared.Num.TheVariants as num
 use Rattle.wasm_num.specs.declared.Trap.{Trap}

@@ -1,7 +1,8 @@
 ghost use Rattle.std.specs.Prelude.{◌≡◌, ◌<◌, ◌≤◌, length, OnOk};
 ghost use Rattle.wasm_bytes.specs.Reading.{lent};
 ghost use Rattle.wasm_read_spec.specs.declared.fault.Fault.TheVariants.{Malformed as Misspelled};
-ghost use Rattle.wasm_read_spec.specs.Reading.{Gives, GivesSlice, sized_at, u32_at, mapped_at, each_at, func_item_at, func_items_at, tagged_at, pair_at, ref_at, const_at, const_items_at, elem_at, data_at};
+ghost use Rattle.wasm_read_spec.specs.Reading.{Gives, GivesSlice, sized_at, u32_at, mapped_at, each_at, func_item_at, func_items_at, tagged_at, pair_at, ref_at, const_at, const_items_at, elem_at};
+ghost use Rattle.wasm_read_spec.specs.Reading.{data_at};
 ghost use Rattle.wasm_read_spec.specs.Sections.{elem_of, data2};
 ghost use Rattle.wasm_tree.specs.declared.types.RefType.TheVariants.{Func};
 

@@ -1,6 +1,7 @@
 ghost use Rattle.std.specs.Prelude.{◌≡◌, ◌<◌, length, OnOk};
 ghost use Rattle.wasm_bytes.specs.Reading.{signed_at};
-ghost use Rattle.wasm_read_spec.specs.Reading.{Gives, or_malformed, chosen_at, index_of, byte_at, u32_at, s32_at, s64_at, tag_at, val_at, ref_at, block_type_at, func_type_at, limits_at, table_at, mut_at, global_at};
+ghost use Rattle.wasm_read_spec.specs.Reading.{Gives, or_malformed, chosen_at, index_of, byte_at, u32_at, s32_at, s64_at, tag_at, val_at, ref_at, block_type_at, func_type_at, limits_at, table_at};
+ghost use Rattle.wasm_read_spec.specs.Reading.{mut_at, global_at};
 
 use crate::vectors::{Spelled, read_vector};
 use std::alloc::Global;

@@ -7,7 +7,8 @@ use Rattle.wasm_tree.specs.OperandLaws.{BlockPasses, LoopPasses, IfPasses}
 use Rattle.wasm_tree.specs.declared.which.Which.TheVariants.{Types, Functions, Tables, Memories, Globals, ElementSegments, DataSegments}
 use Rattle.wasm_read_spec.specs.declared.parts.Parts.{Parts}
 use Rattle.base_lists.specs.Every.{Every}
-use Rattle.wasm_read_spec.specs.Prelude.{Never, MadeFrom, When, Any, Few, Limited, WhenSmall, SmallFuncType, CodeEntry, SpellsEntry, SmallCode, HasSmallCode, nothing, with_types, with_imports, with_func_types, with_tables, with_mems, with_globals, with_exports, with_start, with_elems, with_codes, with_datas, with_count, SpellsCustom, SectionIsSmall, SectionContents, typed, untyped, tree_of, Spells, Within}
+use Rattle.wasm_read_spec.specs.Prelude.{Never, MadeFrom, When, Any, Few, Limited, WhenSmall, SmallFuncType, CodeEntry, SpellsEntry, SmallCode, HasSmallCode, nothing, with_types, with_imports, with_func_types, with_tables, with_mems, with_globals, with_exports, with_start, with_elems, with_codes}
+use Rattle.wasm_read_spec.specs.Prelude.{with_datas, with_count, SpellsCustom, SectionIsSmall, SectionContents, typed, untyped, tree_of, Spells, Within}
 use Rattle.wasm_read_spec.specs.Files.{section_form, small_form}
 use Rattle.wasm_read_spec.proofs.NestLaws.{body_zero}
 

@@ -1,5 +1,6 @@
 -- A reader that finds what is spelled and small, and nothing else; and how such readers are put together.
-use Rattle.base_lists.proofs.Common.{◌≡◌, ℕ, zero, suc, ◌≤◌, List, [], ◌∷◌, ◌++◌, length, Option, Result, Ok, Err, Bool, true, false, cond, refl, sym, ap, ◌∙◌, subst, arith, append_assoc, le-ltb, eqb-true, IsUtf8-from_is_utf8, is_utf8-from_IsUtf8, ◌==◌, IsUtf8, is_utf8, bind_ok, ok_pair, err_ok, within_most}
+use Rattle.base_lists.proofs.Common.{◌≡◌, ℕ, zero, suc, ◌≤◌, List, [], ◌∷◌, ◌++◌, length, Option, Result, Ok, Err, Bool, true, false, cond, refl, sym, ap, ◌∙◌, subst, arith, append_assoc, le-ltb, eqb-true, IsUtf8-from_is_utf8, is_utf8-from_IsUtf8, ◌==◌, IsUtf8, is_utf8, bind_ok, ok_pair, err_ok}
+use Rattle.base_lists.proofs.Common.{within_most}
 use Rattle.wasm_bytes.specs.declared.cursor.Wrong.{Wrong}
 use Rattle.wasm_bytes.specs.declared.cursor.Wrong.TheVariants.{Spelling}
 use Rattle.wasm_bytes.specs.Prelude.{TakesOff, Signed, last_unsigned, join_unsigned, last_signed, join_signed, Then, U32, Each, Vector, Sized, Named, ◌>>=◌, IsBytes}

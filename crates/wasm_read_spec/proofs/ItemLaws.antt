@@ -10,12 +10,15 @@ use Rattle.wasm_tree.specs.declared.module.ImportDesc.TheVariants as import
 use Rattle.wasm_tree.specs.declared.module.ExportDesc.TheVariants as export
 use Rattle.wasm_read_spec.specs.declared.fault.Fault.{Fault}
 use Rattle.wasm_read_spec.specs.declared.fault.Fault.TheVariants.{Malformed, Limit}
-use Rattle.wasm_read_spec.specs.Prelude.{Any, val_of_code, SpellsVal, ref_of_code, SpellsRef, SpellsFuncType, SmallFuncType, at_least, between, SpellsLimits, SpellsTable, mut_of_code, SpellsGlobal, SpellsConst, SpellsImport, SpellsGlobalDef, SpellsExport, FuncItems, ConstItems, elem0, elem1, elem2, elem3, elem5, elem6, elem7, SpellsElem, data0, data1, data2, SpellsData, SpellsGroup, u32_at, func_type_of, with_group}
+use Rattle.wasm_read_spec.specs.Prelude.{Any, val_of_code, SpellsVal, ref_of_code, SpellsRef, SpellsFuncType, SmallFuncType, at_least, between, SpellsLimits, SpellsTable, mut_of_code, SpellsGlobal, SpellsConst, SpellsImport, SpellsGlobalDef, SpellsExport, FuncItems, ConstItems, elem0, elem1, elem2}
+use Rattle.wasm_read_spec.specs.Prelude.{elem3, elem5, elem6, elem7, SpellsElem, data0, data1, data2, SpellsData, SpellsGroup, u32_at, func_type_of, with_group}
 use Rattle.wasm_read_spec.specs.Values.{limits_form, const_form}
 use Rattle.wasm_read_spec.specs.Sections.{import_form, export_form, elem_form, data_form}
-use Rattle.wasm_read_spec.specs.Reading.{val_at, ref_at, func_type_at, limits_at, table_of, table_at, mut_at, global_of, global_at, const_fault, const_at, import_desc_at, import_of, import_at, global_def_of, global_def_at, export_desc_at, export_of, export_at, func_items_at, const_items_at, elem_at, data_at, local_at, locals_at}
+use Rattle.wasm_read_spec.specs.Reading.{val_at, ref_at, func_type_at, limits_at, table_of, table_at, mut_at, global_of, global_at, const_fault, const_at, import_desc_at, import_of, import_at, global_def_of, global_def_at, export_desc_at, export_of, export_at, func_items_at, const_items_at, elem_at}
+use Rattle.wasm_read_spec.specs.Reading.{data_at, local_at, locals_at}
 use Rattle.wasm_read_spec.specs.Exact.{Exact, Along}
-use Rattle.wasm_read_spec.proofs.Exact.{took_then, split, byte_exact, u32_exact, s32_exact, s64_exact, sized_exact, name_exact, never_exact, pair_exact, both_exact, mapped_exact, made_exact, chosen_exact, when_exact, coded_exact, tagged_exact, closed_exact, list_exact, vector_exact, each_sound, each_complete}
+use Rattle.wasm_read_spec.proofs.Exact.{took_then, split, byte_exact, u32_exact, s32_exact, s64_exact, sized_exact, name_exact, never_exact, pair_exact, both_exact, mapped_exact, made_exact, chosen_exact, when_exact, coded_exact, tagged_exact, closed_exact, list_exact, vector_exact, each_sound}
+use Rattle.wasm_read_spec.proofs.Exact.{each_complete}
 
 -- ---- types
 

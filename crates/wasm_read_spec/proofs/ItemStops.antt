@@ -10,8 +10,10 @@ use Rattle.wasm_read_spec.specs.declared.fault.Fault.{Fault}
 use Rattle.wasm_read_spec.specs.declared.fault.Fault.TheVariants.{Malformed, Unsupported, Limit}
 use Rattle.wasm_read_spec.specs.Prelude.{Any, Byte, elem0, elem1, elem2, elem3, elem5, elem6, elem7, data0, data1, data2, SpellsGroup, Stop, NotSupported, Over, NoStop, Reader, each_from, byte_at, pair_at, when_at, chosen_at, tagged_at, name_at, sized_at, fault_at, func_type_of, with_group}
 use Rattle.wasm_read_spec.specs.Values.{val_of_code, ref_of_code, mut_of_code}
-use Rattle.wasm_read_spec.specs.Stops.{ByteStops, BothStops, is_unsupported_val, ValStops, FuncTypeStops, is_unsupported_const, ConstStops, ChosenStops, BehindStops, import_stops, ImportStops, GlobalDefStops, ItemsStop, elem_stops, ElemStops, data_stops, DataStops, GroupStops, GroupsStop, LocalsStop}
-use Rattle.wasm_read_spec.specs.Reading.{s32_at, s64_at, const_from, import_of, export_of, global_def_of, coded_at, const_fault, val_at, ref_at, func_type_at, limits_at, table_of, table_at, mut_at, global_of, global_at, const_at, import_desc_at, import_at, global_def_at, export_desc_at, export_at, func_items_at, const_items_at, elem_at, data_at, local_at, locals_at}
+use Rattle.wasm_read_spec.specs.Stops.{ByteStops, BothStops, is_unsupported_val, ValStops, FuncTypeStops, is_unsupported_const, ConstStops, ChosenStops, BehindStops, import_stops, ImportStops, GlobalDefStops, ItemsStop, elem_stops, ElemStops, data_stops, DataStops, GroupStops, GroupsStop}
+use Rattle.wasm_read_spec.specs.Stops.{LocalsStop}
+use Rattle.wasm_read_spec.specs.Reading.{s32_at, s64_at, const_from, import_of, export_of, global_def_of, coded_at, const_fault, val_at, ref_at, func_type_at, limits_at, table_of, table_at, mut_at, global_of, global_at, const_at, import_desc_at, import_at, global_def_at, export_desc_at, export_at}
+use Rattle.wasm_read_spec.specs.Reading.{func_items_at, const_items_at, elem_at, data_at, local_at, locals_at}
 use Rattle.wasm_read_spec.specs.Exact.{Exact}
 use Rattle.wasm_read_spec.proofs.Exact.{byte_exact, u32_exact, name_exact, made_exact, vector_exact}
 use Rattle.wasm_read_spec.proofs.ItemLaws.{val_exact, ref_exact, const_exact, global_exact, group_exact, small_group, along_sum, sum_along, declared_more}

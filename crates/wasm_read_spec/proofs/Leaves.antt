@@ -2,7 +2,8 @@
 use Rattle.base_lists.proofs.Common.{◌≡◌, ℕ, List, Bool, true, false, cond, Option, Some, None, ap, subst, rules, ℤ, ◌==◌, ◌&&◌, ◌||◌, nat_le}
 use Rattle.wasm_num.specs.declared.UnOp.{UnOp}
 use Rattle.wasm_num.specs.declared.BinOp.{BinOp}
-use Rattle.wasm_tree_spec.specs.Prelude.{RefType, ValType, LoadOp, StoreOp, MemArg, Instr, the_lemmas, Unreachable, Nop, Return, Drop, Select, RefIsNull, Br, BrIf, Call, LocalGet, LocalSet, LocalTee, GlobalGet, GlobalSet, TableGet, TableSet, RefFunc, DataDrop, ElemDrop, TableGrow, TableSize, TableFill, CallIndirect, TableInit, TableCopy, BrTable, SelectTyped, Load, Store, MemorySize, MemoryGrow, MemoryFill, MemoryInit, MemoryCopy, I32Const, I64Const, Un, Bin, RefNull}
+use Rattle.wasm_tree_spec.specs.Prelude.{RefType, ValType, LoadOp, StoreOp, MemArg, Instr, the_lemmas, Unreachable, Nop, Return, Drop, Select, RefIsNull, Br, BrIf, Call, LocalGet, LocalSet, LocalTee, GlobalGet, GlobalSet, TableGet, TableSet, RefFunc, DataDrop, ElemDrop, TableGrow, TableSize}
+use Rattle.wasm_tree_spec.specs.Prelude.{TableFill, CallIndirect, TableInit, TableCopy, BrTable, SelectTyped, Load, Store, MemorySize, MemoryGrow, MemoryFill, MemoryInit, MemoryCopy, I32Const, I64Const, Un, Bin, RefNull}
 use Rattle.wasm_tree.specs.MemoryZero.{memory_zero}
 use Rattle.wasm_read_spec.specs.declared.token.Opener.TheVariants as opener
 use Rattle.wasm_read_spec.specs.declared.token.Token.{Token}
@@ -84,11 +85,30 @@ module _ (many : Bool) (Q : Instr → Type 0) (leaves : Leaves many Q) where
 
   of_sub : (n : ℕ) → Sure (sub_form n)
   unfolding sub_form Holds
-  of_sub n = (choice _ _ _ (sure (with_memory MemoryInit) leaves.of_MemoryInit) (choice _ _ _ (sure (number DataDrop) leaves.of_DataDrop) (choice _ _ _ (sure (memories MemoryCopy) leaves.of_MemoryCopy) (choice _ _ _ (sure (memory MemoryFill) leaves.of_MemoryFill) (choice _ _ _ (sure (numbers TableInit) leaves.of_TableInit) (choice _ _ _ (sure (number ElemDrop) leaves.of_ElemDrop) (choice _ _ _ (sure (numbers TableCopy) leaves.of_TableCopy) (choice _ _ _ (sure (number TableGrow) leaves.of_TableGrow) (choice _ _ _ (sure (number TableSize) leaves.of_TableSize) (choice _ _ _ (sure (number TableFill) leaves.of_TableFill) (choice _ _ _ (sure (unsupported) tt) (sure unknown tt))))))))))))
+  of_sub n = (choice _ _ _ (sure (with_memory MemoryInit) leaves.of_MemoryInit) (choice _ _ _ (sure (number DataDrop) leaves.of_DataDrop)
+      (choice _ _ _ (sure (memories MemoryCopy) leaves.of_MemoryCopy) (choice _ _ _ (sure (memory MemoryFill) leaves.of_MemoryFill)
+      (choice _ _ _ (sure (numbers TableInit) leaves.of_TableInit) (choice _ _ _ (sure (number ElemDrop) leaves.of_ElemDrop)
+      (choice _ _ _ (sure (numbers TableCopy) leaves.of_TableCopy) (choice _ _ _ (sure (number TableGrow) leaves.of_TableGrow)
+      (choice _ _ _ (sure (number TableSize) leaves.of_TableSize) (choice _ _ _ (sure (number TableFill) leaves.of_TableFill) (choice _ _ _ (sure (unsupported) tt) (sure unknown tt))))))))))))
 
   of_rest : (b : ℕ) → Sure (rest_form b)
   unfolding rest_form Holds
-  of_rest b = (choice (b == 0x00) _ _ (sure (plain Unreachable) leaves.of_Unreachable) (choice (b == 0x01) _ _ (sure (plain Nop) leaves.of_Nop) (choice (b == 0x02) _ _ (sure (open' opener.Block) tt) (choice (b == 0x03) _ _ (sure (open' opener.Loop) tt) (choice (b == 0x04) _ _ (sure (open' opener.If) tt) (choice (b == 0x05) _ _ (sure (else') tt) (choice (b == 0x0B) _ _ (sure (end') tt) (choice (b == 0x0C) _ _ (sure (number Br) leaves.of_Br) (choice (b == 0x0D) _ _ (sure (number BrIf) leaves.of_BrIf) (choice (b == 0x0E) _ _ (sure (table) tt) (choice (b == 0x0F) _ _ (sure (plain Return) leaves.of_Return) (choice (b == 0x10) _ _ (sure (number Call) leaves.of_Call) (choice (b == 0x11) _ _ (sure (numbers CallIndirect) leaves.of_CallIndirect) (choice (b == 0x1A) _ _ (sure (plain Drop) leaves.of_Drop) (choice (b == 0x1B) _ _ (sure (plain Select) leaves.of_Select) (choice (b == 0x1C) _ _ (sure (typed) tt) (choice (b == 0x20) _ _ (sure (number LocalGet) leaves.of_LocalGet) (choice (b == 0x21) _ _ (sure (number LocalSet) leaves.of_LocalSet) (choice (b == 0x22) _ _ (sure (number LocalTee) leaves.of_LocalTee) (choice (b == 0x23) _ _ (sure (number GlobalGet) leaves.of_GlobalGet) (choice (b == 0x24) _ _ (sure (number GlobalSet) leaves.of_GlobalSet) (choice (b == 0x25) _ _ (sure (number TableGet) leaves.of_TableGet) (choice (b == 0x26) _ _ (sure (number TableSet) leaves.of_TableSet) (choice (b == 0x3F) _ _ (sure (memory MemorySize) leaves.of_MemorySize) (choice (b == 0x40) _ _ (sure (memory MemoryGrow) leaves.of_MemoryGrow) (choice (b == 0x41) _ _ (sure (const32) tt) (choice (b == 0x42) _ _ (sure (const64) tt) (choice (b == 0xD0) _ _ (sure (null) tt) (choice (b == 0xD1) _ _ (sure (plain RefIsNull) leaves.of_RefIsNull) (choice (b == 0xD2) _ _ (sure (number RefFunc) leaves.of_RefFunc) (choice (b == 0xFC) _ _ (sure (prefixed) tt) (choice ((nat_le 0x2A b && nat_le b 0x2B) || (nat_le 0x38 b && nat_le b 0x39) || (nat_le 0x43 b && nat_le b 0x44) || (nat_le 0x5B b && nat_le b 0x66) || (nat_le 0x8B b && nat_le b 0xA6) || (nat_le 0xA8 b && nat_le b 0xAB) || (nat_le 0xAE b && nat_le b 0xBF) || (nat_le 0xFD b && nat_le b 0xFD)) _ _ (sure (unsupported) tt) (sure unknown tt)))))))))))))))))))))))))))))))))
+  of_rest b = (choice (b == 0x00) _ _ (sure (plain Unreachable) leaves.of_Unreachable) (choice (b == 0x01) _ _ (sure (plain Nop) leaves.of_Nop)
+      (choice (b == 0x02) _ _ (sure (open' opener.Block) tt) (choice (b == 0x03) _ _ (sure (open' opener.Loop) tt)
+      (choice (b == 0x04) _ _ (sure (open' opener.If) tt) (choice (b == 0x05) _ _ (sure (else') tt) (choice (b == 0x0B) _ _ (sure (end') tt)
+      (choice (b == 0x0C) _ _ (sure (number Br) leaves.of_Br) (choice (b == 0x0D) _ _ (sure (number BrIf) leaves.of_BrIf)
+      (choice (b == 0x0E) _ _ (sure (table) tt) (choice (b == 0x0F) _ _ (sure (plain Return) leaves.of_Return)
+      (choice (b == 0x10) _ _ (sure (number Call) leaves.of_Call) (choice (b == 0x11) _ _ (sure (numbers CallIndirect) leaves.of_CallIndirect)
+      (choice (b == 0x1A) _ _ (sure (plain Drop) leaves.of_Drop) (choice (b == 0x1B) _ _ (sure (plain Select) leaves.of_Select)
+      (choice (b == 0x1C) _ _ (sure (typed) tt) (choice (b == 0x20) _ _ (sure (number LocalGet) leaves.of_LocalGet)
+      (choice (b == 0x21) _ _ (sure (number LocalSet) leaves.of_LocalSet) (choice (b == 0x22) _ _ (sure (number LocalTee) leaves.of_LocalTee)
+      (choice (b == 0x23) _ _ (sure (number GlobalGet) leaves.of_GlobalGet) (choice (b == 0x24) _ _ (sure (number GlobalSet) leaves.of_GlobalSet)
+      (choice (b == 0x25) _ _ (sure (number TableGet) leaves.of_TableGet) (choice (b == 0x26) _ _ (sure (number TableSet) leaves.of_TableSet)
+      (choice (b == 0x3F) _ _ (sure (memory MemorySize) leaves.of_MemorySize) (choice (b == 0x40) _ _ (sure (memory MemoryGrow) leaves.of_MemoryGrow)
+      (choice (b == 0x41) _ _ (sure (const32) tt) (choice (b == 0x42) _ _ (sure (const64) tt) (choice (b == 0xD0) _ _ (sure (null) tt)
+      (choice (b == 0xD1) _ _ (sure (plain RefIsNull) leaves.of_RefIsNull) (choice (b == 0xD2) _ _ (sure (number RefFunc) leaves.of_RefFunc)
+      (choice (b == 0xFC) _ _ (sure (prefixed) tt) (choice ((nat_le 0x2A b && nat_le b 0x2B) || (nat_le 0x38 b && nat_le b 0x39) || (nat_le 0x43 b && nat_le b 0x44) || (nat_le 0x5B b && nat_le b 0x66) || (nat_le 0x8B b && nat_le b 0xA6) || (nat_le 0xA8 b && nat_le b 0xAB) ||
+      (nat_le 0xAE b && nat_le b 0xBF) || (nat_le 0xFD b && nat_le b 0xFD)) _ _ (sure (unsupported) tt) (sure unknown tt)))))))))))))))))))))))))))))))))
 
   of_form : (b : ℕ) → Sure (the_form b)
   unfolding the_form Holds

@@ -10,7 +10,8 @@ use Rattle.wasm_read_spec.specs.declared.fault.Fault.TheVariants as fault
 use Rattle.wasm_read_spec.specs.declared.fault.ReadFault.{ReadFault}
 use Rattle.wasm_read_spec.specs.declared.fault.ReadFault.TheVariants.{Malformed, Limit}
 use Rattle.wasm_read_spec.specs.declared.parts.Parts.{Parts}
-use Rattle.wasm_read_spec.specs.Prelude.{CodeEntry, SpellsEntry, SmallCode, with_types, with_imports, with_func_types, with_tables, with_mems, with_globals, with_exports, with_start, with_elems, with_codes, with_datas, with_count, Stop, Over, NoStop, EntryOf, Reader, u32_at, name_at, sized_at, code_at, placed, in_place, next_func, put_at, custom_at}
+use Rattle.wasm_read_spec.specs.Prelude.{CodeEntry, SpellsEntry, SmallCode, with_types, with_imports, with_func_types, with_tables, with_mems, with_globals, with_exports, with_start, with_elems, with_codes, with_datas, with_count, Stop, Over, NoStop, EntryOf, Reader, u32_at, name_at, sized_at}
+use Rattle.wasm_read_spec.specs.Prelude.{code_at, placed, in_place, next_func, put_at, custom_at}
 use Rattle.wasm_read_spec.specs.Stops.{WhenStops, VectorStops, section_stops}
 use Rattle.wasm_read_spec.specs.Reading.{each_from, whole_at}
 use Rattle.wasm_read_spec.specs.Contents.{entry_at, codes_at, section_at}

@@ -8,7 +8,8 @@ use Rattle.wasm_read_spec.specs.declared.fault.Fault.TheVariants as fault
 use Rattle.wasm_read_spec.specs.declared.fault.ReadFault.{ReadFault}
 use Rattle.wasm_read_spec.specs.declared.fault.ReadFault.TheVariants.{Limit, Malformed}
 use Rattle.wasm_read_spec.specs.declared.parts.Parts.{Parts}
-use Rattle.wasm_read_spec.specs.Prelude.{CodeEntry, MadeFrom, When, SpellsEntry, nothing, with_types, with_imports, with_func_types, with_tables, with_mems, with_globals, with_exports, with_start, with_elems, with_codes, with_datas, with_count, SpellsCustom, SectionContents, Spells, Reader, u32_at, sized_at, each_from, code_at, in_place, next_func, custom_at, put_at, framed_at, agrees}
+use Rattle.wasm_read_spec.specs.Prelude.{CodeEntry, MadeFrom, When, SpellsEntry, nothing, with_types, with_imports, with_func_types, with_tables, with_mems, with_globals, with_exports, with_start, with_elems, with_codes, with_datas, with_count, SpellsCustom, SectionContents, Spells, Reader, u32_at}
+use Rattle.wasm_read_spec.specs.Prelude.{sized_at, each_from, code_at, in_place, next_func, custom_at, put_at, framed_at, agrees}
 use Rattle.wasm_read_spec.specs.Files.{section_form}
 use Rattle.wasm_read_spec.specs.Reading.{whole_at}
 use Rattle.wasm_read_spec.specs.Contents.{entry_at, codes_at, section_at, contents_at, parts_at, read_at}

@@ -8,7 +8,8 @@ use Rattle.wasm_read_spec.specs.declared.fault.Fault.{Fault}
 use Rattle.wasm_read_spec.specs.declared.fault.Fault.TheVariants.{Malformed, Unsupported}
 use Rattle.wasm_read_spec.specs.declared.token.Token.{Token}
 use Rattle.wasm_read_spec.specs.declared.token.Token.TheVariants.{Open, Else, End, Plain}
-use Rattle.wasm_read_spec.specs.Prelude.{Any, SpellsBlockType, Form, plain, number, numbers, const32, const64, table, access, memory, memories, with_memory, null, open', else', end', prefixed, unsupported, unknown, the_form, sub_form, SpellsMemArg, SpellsMemory, Simple, FollowsOpcode, SpellsToken, or_malformed, mapped_at, val_at, token_of}
+use Rattle.wasm_read_spec.specs.Prelude.{Any, SpellsBlockType, Form, plain, number, numbers, const32, const64, table, access, memory, memories, with_memory, null, open', else', end', prefixed, unsupported, unknown, the_form, sub_form, SpellsMemArg, SpellsMemory, Simple, FollowsOpcode, SpellsToken}
+use Rattle.wasm_read_spec.specs.Prelude.{or_malformed, mapped_at, val_at, token_of}
 use Rattle.wasm_read_spec.specs.Values.{val_of_code}
 use Rattle.wasm_read_spec.specs.Tokens.{typed, arg_of, arg_in, arg_form}
 use Rattle.wasm_read_spec.specs.Reading.{index_of, block_type_at}

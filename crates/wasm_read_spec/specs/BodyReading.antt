@@ -9,9 +9,11 @@ use Rattle.wasm_read_spec.specs.declared.token.Opener.TheVariants as opener
 use Rattle.wasm_read_spec.specs.declared.token.Token.{Token}
 use Rattle.wasm_read_spec.specs.declared.token.Token.TheVariants.{Open, Else, End, Plain}
 use Rattle.wasm_read_spec.specs.declared.token.Sequence.{Sequence}
-use Rattle.wasm_read_spec.specs.Tokens.{Form, plain, number, numbers, const32, const64, table, typed, access, memory, memories, with_memory, null, open', else', end', prefixed, unsupported, unknown, the_form, sub_form, arg_of, arg_in}
+use Rattle.wasm_read_spec.specs.Tokens.{Form, plain, number, numbers, const32, const64, table, typed, access, memory, memories, with_memory, null, open', else', end', prefixed, unsupported, unknown}
+use Rattle.wasm_read_spec.specs.Tokens.{the_form, sub_form, arg_of, arg_in}
 use Rattle.wasm_read_spec.specs.Bodies.{CodeEntry}
-use Rattle.wasm_read_spec.specs.Reading.{Reader, byte_at, u32_at, s32_at, s64_at, just_at, fault_at, pair_at, mapped_at, chosen_at, when_at, tagged_at, list_at, val_at, ref_at, block_type_at, locals_at}
+use Rattle.wasm_read_spec.specs.Reading.{Reader, byte_at, u32_at, s32_at, s64_at, just_at, fault_at, pair_at, mapped_at, chosen_at, when_at, tagged_at, list_at, val_at, ref_at, block_type_at}
+use Rattle.wasm_read_spec.specs.Reading.{locals_at}
 
 -- ---- tokens
 

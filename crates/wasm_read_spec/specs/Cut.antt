@@ -11,4 +11,5 @@ EndsWithAFrame prefix bytes = (front : List Section) × (last : Section) × (bac
 -- If a file encodes a tree and so does a proper prefix of it, the prefix is the header alone or
 -- ends where a frame ends.
 abbrev pub CutFiles : Type 0
-CutFiles = (many : Bool) (prefix rest : List ℕ) (whole part : Module) → rest ≢ [] → Spells (prefix ++ rest) whole many → Spells prefix part many → (prefix ≡ header) ⊎ EndsWithAFrame prefix (prefix ++ rest)
+CutFiles = (many : Bool) (prefix rest : List ℕ) (whole part : Module) → rest ≢ [] → Spells (prefix ++ rest) whole many → Spells prefix part many →
+    (prefix ≡ header) ⊎ EndsWithAFrame prefix (prefix ++ rest)

@@ -5,7 +5,8 @@ use Rattle.std.specs.Borrow.{Bor}
 use Rattle.wasm_bytes.specs.declared.cursor.Wrong.{Wrong}
 use Rattle.wasm_bytes.specs.Prelude.{◌>>=◌, unsigned_at, signed_at}
 use Rattle.wasm_bytes.specs.Reading.{name_at as text_at, sized_at as content_at, byte_at as first_at}
-use Rattle.wasm_tree_spec.specs.Prelude.{Which, Parameters, Results, Locals, ValType, RefType, FuncType, Limits, TableType, GlobalType, BlockType, ConstExpr, ImportDesc, Import, ExportDesc, Export, GlobalDef, ElemSeg, DataSeg, LocalGroup, limit}
+use Rattle.wasm_tree_spec.specs.Prelude.{Which, Parameters, Results, Locals, ValType, RefType, FuncType, Limits, TableType, GlobalType, BlockType, ConstExpr, ImportDesc, Import, ExportDesc, Export}
+use Rattle.wasm_tree_spec.specs.Prelude.{GlobalDef, ElemSeg, DataSeg, LocalGroup, limit}
 use Rattle.wasm_tree.specs.declared.types.BlockType.TheVariants as bt
 use Rattle.wasm_tree.specs.declared.module.ConstExpr.TheVariants as const
 use Rattle.wasm_tree.specs.declared.module.ImportDesc.TheVariants as import

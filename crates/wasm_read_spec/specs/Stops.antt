@@ -13,7 +13,8 @@ use Rattle.wasm_read_spec.specs.declared.token.Token.TheVariants.{Open, Else}
 use Rattle.wasm_read_spec.specs.SpellingForms.{Byte, Any, Few}
 use Rattle.wasm_read_spec.specs.Values.{SpellsVal, SpellsRef, SpellsFuncType, SmallFuncType, SpellsTable, SpellsLimits, SpellsConst, SpellsGlobal}
 use Rattle.wasm_read_spec.specs.Sections.{SpellsImport, SpellsGlobalDef, SpellsExport, SpellsElem, SpellsData}
-use Rattle.wasm_read_spec.specs.Tokens.{Form, plain, number, numbers, const32, const64, table, typed, access, memory, memories, with_memory, null, open', else', end', prefixed, unsupported, unknown, the_form, sub_form, SpellsToken}
+use Rattle.wasm_read_spec.specs.Tokens.{Form, plain, number, numbers, const32, const64, table, typed, access, memory, memories, with_memory, null, open', else', end', prefixed, unsupported, unknown}
+use Rattle.wasm_read_spec.specs.Tokens.{the_form, sub_form, SpellsToken}
 use Rattle.wasm_read_spec.specs.Bodies.{Nests, SpellsGroup, SpellsEntry, SmallCode, depth}
 
 pub data Stop : Type 0 where

@@ -2,7 +2,9 @@
 -- is data.
 use Rattle.std.specs.Prelude.{ℕ, ◌-◌, List, Option, Some, None, Bool, true, false, nat_le, nat_lt, ◌==◌, ◌&&◌, ◌||◌, if◌then◌else◌}
 use Rattle.wasm_bytes.specs.Prelude.{U32, Vector}
-use Rattle.wasm_tree_spec.specs.Prelude.{MemArg, Instr, Unreachable, Nop, Br, BrIf, BrTable, Return, Call, CallIndirect, Drop, Select, SelectTyped, LocalGet, LocalSet, LocalTee, GlobalGet, GlobalSet, TableGet, TableSet, Load, Store, MemorySize, MemoryGrow, I32Const, I64Const, Un, Bin, RefNull, RefIsNull, RefFunc, MemoryInit, DataDrop, MemoryCopy, MemoryFill, TableInit, ElemDrop, TableCopy, TableGrow, TableSize, TableFill}
+use Rattle.wasm_tree_spec.specs.Prelude.{MemArg, Instr, Unreachable, Nop, Br, BrIf, BrTable, Return, Call, CallIndirect, Drop, Select, SelectTyped, LocalGet, LocalSet, LocalTee, GlobalGet, GlobalSet}
+use Rattle.wasm_tree_spec.specs.Prelude.{TableGet, TableSet, Load, Store, MemorySize, MemoryGrow, I32Const, I64Const, Un, Bin, RefNull, RefIsNull, RefFunc, MemoryInit, DataDrop, MemoryCopy}
+use Rattle.wasm_tree_spec.specs.Prelude.{MemoryFill, TableInit, ElemDrop, TableCopy, TableGrow, TableSize, TableFill}
 use Rattle.wasm_read_spec.specs.declared.token.Opener.{Opener}
 use Rattle.wasm_read_spec.specs.declared.token.Opener.TheVariants as opener
 use Rattle.wasm_read_spec.specs.declared.token.Token.{Token}
@@ -88,11 +90,13 @@ rest_form b =
     (if b == 0xD1 then plain RefIsNull else
     (if b == 0xD2 then number RefFunc else
     (if b == 0xFC then prefixed else
-    (if (nat_le 0x2A b && nat_le b 0x2B) || (nat_le 0x38 b && nat_le b 0x39) || (nat_le 0x43 b && nat_le b 0x44) || (nat_le 0x5B b && nat_le b 0x66) || (nat_le 0x8B b && nat_le b 0xA6) || (nat_le 0xA8 b && nat_le b 0xAB) || (nat_le 0xAE b && nat_le b 0xBF) || (nat_le 0xFD b && nat_le b 0xFD) then unsupported else
+    (if (nat_le 0x2A b && nat_le b 0x2B) || (nat_le 0x38 b && nat_le b 0x39) || (nat_le 0x43 b && nat_le b 0x44) || (nat_le 0x5B b && nat_le b 0x66) || (nat_le 0x8B b && nat_le b 0xA6) ||
+        (nat_le 0xA8 b && nat_le b 0xAB) || (nat_le 0xAE b && nat_le b 0xBF) || (nat_le 0xFD b && nat_le b 0xFD) then unsupported else
     unknown))))))))))))))))))))))))))))))))
 
 unfoldable pub the_form : ℕ → Form
-the_form b = form_or (un_of b) (λ op. plain (Un op)) (form_or (bin_of b) (λ op. plain (Bin op)) (form_or (load_of b) (λ op. access (Load op)) (form_or (store_of b) (λ op. access (Store op)) (rest_form b))))
+the_form b = form_or (un_of b) (λ op. plain (Un op)) (form_or (bin_of b) (λ op. plain (Bin op))
+    (form_or (load_of b) (λ op. access (Load op)) (form_or (store_of b) (λ op. access (Store op)) (rest_form b))))
 
 -- ---- the immediates of an opcode, and its token
 

@@ -2,8 +2,10 @@
 -- them as numbers.
 use Rattle.std.specs.Prelude.{ℕ}
 use Rattle.wasm_tree.specs.declared.which.Which.{Which}
-use Rattle.wasm_tree.specs.declared.which.Which.TheVariants.{InputBytes, Parts, Types, Imports, Functions, Tables, Memories, Globals, Exports, ElementSegments, DataSegments, Nesting, Locals, Parameters, Results, Trampolines, OutputBytes}
-use Rattle.wasm_tree.specs.declared.which.TheConstants.{MOST_INPUT_BYTES, MOST_PARTS, MOST_TYPES, MOST_IMPORTS, MOST_FUNCTIONS, MOST_TABLES, MOST_MEMORIES, MOST_GLOBALS, MOST_EXPORTS, MOST_ELEMENT_SEGMENTS, MOST_DATA_SEGMENTS, MOST_NESTING, MOST_LOCALS, MOST_PARAMETERS, MOST_RESULTS, MOST_TRAMPOLINES, MOST_OUTPUT_BYTES}
+use Rattle.wasm_tree.specs.declared.which.Which.TheVariants.{InputBytes, Parts, Types, Imports, Functions, Tables, Memories, Globals, Exports, ElementSegments, DataSegments, Nesting, Locals}
+use Rattle.wasm_tree.specs.declared.which.Which.TheVariants.{Parameters, Results, Trampolines, OutputBytes}
+use Rattle.wasm_tree.specs.declared.which.TheConstants.{MOST_INPUT_BYTES, MOST_PARTS, MOST_TYPES, MOST_IMPORTS, MOST_FUNCTIONS, MOST_TABLES, MOST_MEMORIES, MOST_GLOBALS, MOST_EXPORTS}
+use Rattle.wasm_tree.specs.declared.which.TheConstants.{MOST_ELEMENT_SEGMENTS, MOST_DATA_SEGMENTS, MOST_NESTING, MOST_LOCALS, MOST_PARAMETERS, MOST_RESULTS, MOST_TRAMPOLINES, MOST_OUTPUT_BYTES}
 
 abbrev pub limit : Which → ℕ
 limit InputBytes = MOST_INPUT_BYTES

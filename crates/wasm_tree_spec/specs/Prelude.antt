@@ -6,11 +6,17 @@ pub use Rattle.wasm_tree.specs.Layers.{Layers, ListLayers, RowLayers}
 pub use Rattle.wasm_tree.specs.Limits.{limit}
 pub use Rattle.wasm_tree.specs.MemoryZero.{is_memory_zero, memory_zero_all, memory_zero_funcs}
 pub use Rattle.wasm_tree.specs.OperandLaws.{AnyInside, PassesInside, PassesLayerByLayer}
-pub use Rattle.wasm_tree.specs.Operands.{all_operands_pass, all_pass_step, any_operand_passes, any_pass_step, block_operands, called, held, listed, map_operands, mapped_all, operand_passes, operands, operands_of, operands_pass, same_space}
+pub use Rattle.wasm_tree.specs.Operands.{all_operands_pass, all_pass_step, any_operand_passes, any_pass_step, block_operands, called, held, listed, map_operands, mapped_all, operand_passes, operands}
+pub use Rattle.wasm_tree.specs.Operands.{operands_of, operands_pass, same_space}
 pub use Rattle.wasm_tree.specs.SameTypes.{same_func_type, same_ref, same_type, same_types}
-pub use Rattle.wasm_tree.specs.Spaces.{func_of, funcs_of, global_of, globals_of, imported_funcs, imported_globals, imported_memories, imported_tables, index_of_export, memories_of, memory_of, space_of_export, space_of_import, table_of, tables_of, type_of_func}
-pub use Rattle.wasm_tree.specs.declared.instr.Instr.{Instr, Row_of-Instr, end_of-Instr, fold-Instr, fold_out-Instr, items-the_row-Instr, items_shown-the_row-Instr-0, map-Instr, more_of-Instr, out-Instr, roll-out-Instr, the_lemmas}
-pub use Rattle.wasm_tree.specs.declared.instr.Instr.TheVariants.{Bin, Block, Block', Br, BrIf, BrTable, Call, CallIndirect, DataDrop, Drop, ElemDrop, GlobalGet, GlobalSet, I32Const, I64Const, If, If', Load, LocalGet, LocalSet, LocalTee, Loop, Loop', MemoryCopy, MemoryFill, MemoryGrow, MemoryInit, MemorySize, Nop, RefFunc, RefIsNull, RefNull, Return, Select, SelectTyped, Store, TableCopy, TableFill, TableGet, TableGrow, TableInit, TableSet, TableSize, Un, Unreachable, outs-Block, outs-If, outs-Loop}
+pub use Rattle.wasm_tree.specs.Spaces.{func_of, funcs_of, global_of, globals_of, imported_funcs, imported_globals, imported_memories, imported_tables, index_of_export, memories_of, memory_of}
+pub use Rattle.wasm_tree.specs.Spaces.{space_of_export, space_of_import, table_of, tables_of, type_of_func}
+pub use Rattle.wasm_tree.specs.declared.instr.Instr.{Instr, Row_of-Instr, end_of-Instr, fold-Instr, fold_out-Instr, items-the_row-Instr, items_shown-the_row-Instr-0, map-Instr, more_of-Instr}
+pub use Rattle.wasm_tree.specs.declared.instr.Instr.{out-Instr, roll-out-Instr, the_lemmas}
+pub use Rattle.wasm_tree.specs.declared.instr.Instr.TheVariants.{Bin, Block, Block', Br, BrIf, BrTable, Call, CallIndirect, DataDrop, Drop, ElemDrop, GlobalGet, GlobalSet, I32Const, I64Const, If, If'}
+pub use Rattle.wasm_tree.specs.declared.instr.Instr.TheVariants.{Load, LocalGet, LocalSet, LocalTee, Loop, Loop', MemoryCopy, MemoryFill, MemoryGrow, MemoryInit, MemorySize, Nop, RefFunc, RefIsNull}
+pub use Rattle.wasm_tree.specs.declared.instr.Instr.TheVariants.{RefNull, Return, Select, SelectTyped, Store, TableCopy, TableFill, TableGet, TableGrow, TableInit, TableSet, TableSize, Un}
+pub use Rattle.wasm_tree.specs.declared.instr.Instr.TheVariants.{Unreachable, outs-Block, outs-If, outs-Loop}
 pub use Rattle.wasm_tree.specs.declared.instr.LoadOp.{LoadOp}
 pub use Rattle.wasm_tree.specs.declared.instr.LoadOp.TheVariants.{I32Load}
 pub use Rattle.wasm_tree.specs.declared.instr.MemArg.{MemArg}

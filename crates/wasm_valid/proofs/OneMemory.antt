@@ -2,7 +2,8 @@
 use Rattle.base_lists.proofs.Common.{◌≡◌, ℕ, ◌≤◌, true, IsTrue, nat_eq, nat_lt, List, [], ◌∷◌, Some, refl, subst, arith, slice_get, nat_tests, slice_get_within, left_true, right_true, list_all_from}
 use Rattle.std.proofs.lemmas.Option.{cond_some}
 use Rattle.base_lists.specs.Every.{Every}
-use Rattle.wasm_tree_spec.specs.Prelude.{BlockType, Func, Module, Operand, Instr, Row_of-Instr, end_of-Instr, more_of-Instr, Block', Loop', If', Call, CallIndirect, GlobalGet, GlobalSet, TableGet, TableSet, Load, Store, MemorySize, MemoryGrow, RefFunc, MemoryInit, DataDrop, MemoryCopy, MemoryFill, TableInit, ElemDrop, TableCopy, TableGrow, TableSize, TableFill, Layers, RowLayers, ListLayers, is_memory_zero, memory_zero_all, memory_zero_funcs, PassesLayerByLayer, operands, block_operands}
+use Rattle.wasm_tree_spec.specs.Prelude.{BlockType, Func, Module, Operand, Instr, Row_of-Instr, end_of-Instr, more_of-Instr, Block', Loop', If', Call, CallIndirect, GlobalGet, GlobalSet, TableGet, TableSet, Load, Store, MemorySize, MemoryGrow, RefFunc, MemoryInit, DataDrop, MemoryCopy, MemoryFill}
+use Rattle.wasm_tree_spec.specs.Prelude.{TableInit, ElemDrop, TableCopy, TableGrow, TableSize, TableFill, Layers, RowLayers, ListLayers, is_memory_zero, memory_zero_all, memory_zero_funcs, PassesLayerByLayer, operands, block_operands}
 use Rattle.wasm_tree.specs.declared.types.BlockType.TheVariants as block
 use Rattle.wasm_tree.specs.declared.instr.Instr.{out-Instr}
 use Rattle.wasm_tree.specs.declared.instr.Instr.TheOpen.{Instr-F}

@@ -1,7 +1,8 @@
 -- When a module is valid (WebAssembly Core 2.0, section 3.4): each of its items is.
 use Rattle.std.specs.Prelude.{◌≡◌, ◌↔◌, ℕ, zero, suc, ◌<◌, ◌≤◌, Bool, true, false, List, [], ◌∷◌, length, map, take, Contains, Option, Some, None, slice_get}
 use Rattle.std.specs.List.{flat_map}
-use Rattle.wasm_tree_spec.specs.Prelude.{RefType, I32, Ref, FuncType, Limits, TableType, ImportDesc, ExportDesc, ElemMode, DataMode, ConstExpr, Import, Func, GlobalDef, Export, ElemSeg, DataSeg, Module, funcs_of, tables_of, memories_of, globals_of, type_of_func}
+use Rattle.wasm_tree_spec.specs.Prelude.{RefType, I32, Ref, FuncType, Limits, TableType, ImportDesc, ExportDesc, ElemMode, DataMode, ConstExpr, Import, Func, GlobalDef, Export, ElemSeg, DataSeg}
+use Rattle.wasm_tree_spec.specs.Prelude.{Module, funcs_of, tables_of, memories_of, globals_of, type_of_func}
 use Rattle.wasm_tree.specs.declared.module.ImportDesc.TheVariants as imported
 use Rattle.wasm_tree.specs.declared.module.ExportDesc.TheVariants as exported
 use Rattle.wasm_tree.specs.declared.module.ElemMode.TheVariants as elem

@@ -1,5 +1,6 @@
 -- What an instruction does to the kept stack is what it does to the stacks that it denotes.
-use Rattle.base_lists.proofs.Common.{arith, ◌≡◌, ℕ, suc, Bool, true, false, cond, ◌&&◌, nat_eq, is_some, List, [], ◌∷◌, ◌++◌, map, reverse, length, Option, Some, None, refl, sym, ap, ◌∙◌, subst, option_and_then, option_map, length-reverse, eqb-true, and_parts, option_map_is, and_then_is, is_some_there}
+use Rattle.base_lists.proofs.Common.{arith, ◌≡◌, ℕ, suc, Bool, true, false, cond, ◌&&◌, nat_eq, is_some, List, [], ◌∷◌, ◌++◌, map, reverse, length, Option, Some, None, refl, sym, ap, ◌∙◌, subst, option_and_then, option_map, length-reverse, eqb-true, and_parts, option_map_is, and_then_is}
+use Rattle.base_lists.proofs.Common.{is_some_there}
 use Rattle.std.proofs.Common.{eq-eqb}
 use Rattle.std.proofs.lemmas.Option.{cond_some}
 use Rattle.wasm_tree_spec.specs.Prelude.{ValType, I32, I64, Ref, same_type}

@@ -24,7 +24,8 @@ pub back_again : (a b c : Kept) → IsBack a b → IsBack b c → IsBack a c
 back_again a b c (s, p, n) (t, q, m) = (t ∙ s, q ∙ p, m ∙ n)
 
 -- what stood there before a block stands there after it
-pub back : (old inside new : Kept) (outer : Outer) → beneath inside ≡ old.types.items → new.types.items ≡ beneath inside → outer.base ≡ old.base → new.base ≡ outer.base → outer.bottom ≡ old.bottom → new.bottom ≡ outer.bottom → outer.any_below ≡ old.any_below → new.any_below ≡ outer.any_below → IsBack old new
+pub back : (old inside new : Kept) (outer : Outer) → beneath inside ≡ old.types.items → new.types.items ≡ beneath inside → outer.base ≡ old.base → new.base ≡ outer.base → outer.bottom ≡ old.bottom → new.bottom ≡ outer.bottom → outer.any_below ≡ old.any_below → new.any_below ≡ outer.any_below →
+    IsBack old new
 back old inside new outer j i b' b l' l a' a =
     let items : new.types.items ≡ old.types.items = i ∙ j in
     let base : new.base ≡ old.base = b ∙ b' in (

@@ -11,7 +11,8 @@ labels_same : (labels : List (List ValType)) (xs : Stack) (o : Bool) (n : ℕ) (
 labels_same labels xs o n [] ts h = let e : [] ≡ ts = cc in ap (all_pop xs o n) e
 labels_same labels xs o n (l ∷ ls) ts h = here (slice_get labels l) (labels_at labels ls) h (labels_same labels xs o n ls)
   where
-    here : (m : Option (List ValType)) (r : Option (List (List ValType))) → option_and_then (λ t. option_map (λ us. t ∷ us) r) m ≡ Some ts → ((us : List (List ValType)) → r ≡ Some us → allows_all labels xs o n ls ≡ all_pop xs o n us) → allows_types xs o n m && allows_all labels xs o n ls ≡ all_pop xs o n ts
+    here : (m : Option (List ValType)) (r : Option (List (List ValType))) → option_and_then (λ t. option_map (λ us. t ∷ us) r) m ≡ Some ts → ((us : List (List ValType)) → r ≡ Some us → allows_all labels xs o n ls ≡ all_pop xs o n us) →
+        allows_types xs o n m && allows_all labels xs o n ls ≡ all_pop xs o n ts
     here None r g ih = cc
     here (Some t) None g ih = cc
     here (Some t) (Some us) g ih =
@@ -45,7 +46,8 @@ arity_at labels l ls t ts h g = here (labels_at labels ls) (sym (ap (λ m. optio
     here None k = cc
     here (Some us) k = let e : t ∷ us ≡ ts = cc in ap arity (sym e)
 
-pub branches_yes : (labels : List (List ValType)) (xs ys : Stack) (o p : Bool) (l : ℕ) (ls : List ℕ) (t : List ValType) → slice_get labels l ≡ Some t → pop_type xs o I32 ≡ Some ys → p ≡ o → allows_types ys p (length t) (slice_get labels l) ≡ true → allows_all labels ys p (length t) ls ≡ true → answer labels xs o (l ∷ ls) ≡ Some ([], true)
+pub branches_yes : (labels : List (List ValType)) (xs ys : Stack) (o p : Bool) (l : ℕ) (ls : List ℕ) (t : List ValType) → slice_get labels l ≡ Some t → pop_type xs o I32 ≡ Some ys → p ≡ o → allows_types ys p (length t) (slice_get labels l) ≡ true → allows_all labels ys p (length t) ls ≡ true →
+    answer labels xs o (l ∷ ls) ≡ Some ([], true)
 branches_yes labels xs ys o p l ls t h g e a b =
     let all : allows_all labels ys p (length t) (l ∷ ls) ≡ true = ap (λ z. z && allows_all labels ys p (length t) ls) a ∙ b in
     let all_o : allows_all labels ys o (length t) (l ∷ ls) ≡ true = subst (λ q. allows_all labels ys q (length t) (l ∷ ls) ≡ true) e all in

@@ -1,5 +1,6 @@
 -- The operands of the innermost block, in the list that holds those of all blocks.
-use Rattle.base_lists.proofs.Common.{◌≡◌, ℕ, suc, ◌+◌, ◌<◌, ◌≤◌, nat_le, Bool, true, false, cond, ◌&&◌, ◌||◌, is_some, List, [], ◌∷◌, ◌++◌, map, reverse, length, take, drop, Option, Some, None, refl, sym, ap, ◌∙◌, subst, arith, append-nil, option_and_then, length-append, reverse-append, length-reverse, length-map, length-take-le, length-drop, map-append, take-append-drop, drop_all, lt-leb, same_tests, each_same_is, each_same_self}
+use Rattle.base_lists.proofs.Common.{◌≡◌, ℕ, suc, ◌+◌, ◌<◌, ◌≤◌, nat_le, Bool, true, false, cond, ◌&&◌, ◌||◌, is_some, List, [], ◌∷◌, ◌++◌, map, reverse, length, take, drop, Option, Some, None, refl, sym, ap, ◌∙◌, subst, arith, append-nil, option_and_then, length-append, reverse-append}
+use Rattle.base_lists.proofs.Common.{length-reverse, length-map, length-take-le, length-drop, map-append, take-append-drop, drop_all, lt-leb, same_tests, each_same_is, each_same_self}
 use Rattle.std.proofs.lemmas.List.{reverse-reverse, append_assoc, drop-append-le}
 use Rattle.std.proofs.Math.Seq.{drop-append_seam}
 use Rattle.wasm_tree_spec.specs.Prelude.{ValType, same_type, same_types}

@@ -61,25 +61,31 @@ plain_arm c i xs o ys p ok plain h = by_effect (effect_of c i) xs o ys p ok h
 same_signature : (m : Option Signature) (f g : Signature) → Some f ≡ m → m ≡ Some g → g ≡ f
 same_signature m f g h k = cc
 
-pub block_arm : (c : Context) (bt : BlockType) (v : List Instr) (f : Signature) (xs : Stack) (o : Bool) (ys : Stack) (p ok : Bool) → Some f ≡ signature_of c.types bt → WellTyped (under c f.results) v f.params f.results → act (Gives f.params f.results) xs o ≡ when ok (ys, p) → TracksStep (Fits c (Block bt v)) xs o ys p ok
+pub block_arm : (c : Context) (bt : BlockType) (v : List Instr) (f : Signature) (xs : Stack) (o : Bool) (ys : Stack) (p ok : Bool) → Some f ≡ signature_of c.types bt → WellTyped (under c f.results) v f.params f.results → act (Gives f.params f.results) xs o ≡ when ok (ys, p) →
+    TracksStep (Fits c (Block bt v)) xs o ys p ok
 block_arm c bt v f xs o ys p ok sig w h =
-    follows_map (Acts (Gives f.params f.results)) (Fits c (Block bt v)) (λ s t a. (f, sym sig, ends_from (under c f.results) v f.params f.results w, a)) (λ s t (g, e, l, a). subst (λ z. Acts (Gives z.params z.results) s t) (same_signature _ f g sig e) a) xs o ys p ok (follows_acts (Gives f.params f.results) xs o ys p ok h)
+    follows_map (Acts (Gives f.params f.results)) (Fits c (Block bt v)) (λ s t a. (f, sym sig, ends_from (under c f.results) v f.params f.results w, a)) (λ s t (g, e, l, a). subst (λ z. Acts (Gives z.params z.results) s t) (same_signature _ f g sig e) a) xs o ys p ok
+        (follows_acts (Gives f.params f.results) xs o ys p ok h)
 
 pub block_stop : (c : Context) (bt : BlockType) (v : List Instr) (f : Signature) (xs : Stack) (o : Bool) → Some f ≡ signature_of c.types bt → (WellTyped (under c f.results) v f.params f.results → ⊥) → LeadsNowhere (Fits c (Block bt v)) xs o
 block_stop c bt v f xs o sig never s t i (g, e, l, a) =
     never (subst (λ z. WellTyped (under c z.results) v z.params z.results) (same_signature _ f g sig e) (ends_to (under c g.results) v g.params g.results l))
 
-pub loop_arm : (c : Context) (bt : BlockType) (v : List Instr) (f : Signature) (xs : Stack) (o : Bool) (ys : Stack) (p ok : Bool) → Some f ≡ signature_of c.types bt → WellTyped (under c f.params) v f.params f.results → act (Gives f.params f.results) xs o ≡ when ok (ys, p) → TracksStep (Fits c (Loop bt v)) xs o ys p ok
+pub loop_arm : (c : Context) (bt : BlockType) (v : List Instr) (f : Signature) (xs : Stack) (o : Bool) (ys : Stack) (p ok : Bool) → Some f ≡ signature_of c.types bt → WellTyped (under c f.params) v f.params f.results → act (Gives f.params f.results) xs o ≡ when ok (ys, p) →
+    TracksStep (Fits c (Loop bt v)) xs o ys p ok
 loop_arm c bt v f xs o ys p ok sig w h =
-    follows_map (Acts (Gives f.params f.results)) (Fits c (Loop bt v)) (λ s t a. (f, sym sig, ends_from (under c f.params) v f.params f.results w, a)) (λ s t (g, e, l, a). subst (λ z. Acts (Gives z.params z.results) s t) (same_signature _ f g sig e) a) xs o ys p ok (follows_acts (Gives f.params f.results) xs o ys p ok h)
+    follows_map (Acts (Gives f.params f.results)) (Fits c (Loop bt v)) (λ s t a. (f, sym sig, ends_from (under c f.params) v f.params f.results w, a)) (λ s t (g, e, l, a). subst (λ z. Acts (Gives z.params z.results) s t) (same_signature _ f g sig e) a) xs o ys p ok
+        (follows_acts (Gives f.params f.results) xs o ys p ok h)
 
 pub loop_stop : (c : Context) (bt : BlockType) (v : List Instr) (f : Signature) (xs : Stack) (o : Bool) → Some f ≡ signature_of c.types bt → (WellTyped (under c f.params) v f.params f.results → ⊥) → LeadsNowhere (Fits c (Loop bt v)) xs o
 loop_stop c bt v f xs o sig never s t i (g, e, l, a) =
     never (subst (λ z. WellTyped (under c z.params) v z.params z.results) (same_signature _ f g sig e) (ends_to (under c g.params) v g.params g.results l))
 
-pub if_arm : (c : Context) (bt : BlockType) (v w : List Instr) (f : Signature) (xs : Stack) (o : Bool) (ys : Stack) (p ok : Bool) → Some f ≡ signature_of c.types bt → WellTyped (under c f.results) v f.params f.results → WellTyped (under c f.results) w f.params f.results → act (Gives (f.params ++ I32 ∷ []) f.results) xs o ≡ when ok (ys, p) → TracksStep (Fits c (If bt v w)) xs o ys p ok
+pub if_arm : (c : Context) (bt : BlockType) (v w : List Instr) (f : Signature) (xs : Stack) (o : Bool) (ys : Stack) (p ok : Bool) → Some f ≡ signature_of c.types bt → WellTyped (under c f.results) v f.params f.results → WellTyped (under c f.results) w f.params f.results →
+    act (Gives (f.params ++ I32 ∷ []) f.results) xs o ≡ when ok (ys, p) → TracksStep (Fits c (If bt v w)) xs o ys p ok
 if_arm c bt v w f xs o ys p ok sig vt wt h =
-    follows_map (Acts (Gives (f.params ++ I32 ∷ []) f.results)) (Fits c (If bt v w)) (λ s t a. (f, sym sig, ends_from (under c f.results) v f.params f.results vt, ends_from (under c f.results) w f.params f.results wt, a)) (λ s t (g, e, l, m, a). subst (λ z. Acts (Gives (z.params ++ I32 ∷ []) z.results) s t) (same_signature _ f g sig e) a) xs o ys p ok (follows_acts (Gives (f.params ++ I32 ∷ []) f.results) xs o ys p ok h)
+    follows_map (Acts (Gives (f.params ++ I32 ∷ []) f.results)) (Fits c (If bt v w)) (λ s t a. (f, sym sig, ends_from (under c f.results) v f.params f.results vt, ends_from (under c f.results) w f.params f.results wt, a))
+        (λ s t (g, e, l, m, a). subst (λ z. Acts (Gives (z.params ++ I32 ∷ []) z.results) s t) (same_signature _ f g sig e) a) xs o ys p ok (follows_acts (Gives (f.params ++ I32 ∷ []) f.results) xs o ys p ok h)
 
 pub then_stop : (c : Context) (bt : BlockType) (v w : List Instr) (f : Signature) (xs : Stack) (o : Bool) → Some f ≡ signature_of c.types bt → (WellTyped (under c f.results) v f.params f.results → ⊥) → LeadsNowhere (Fits c (If bt v w)) xs o
 then_stop c bt v w f xs o sig never s t i (g, e, l, m, a) =
@@ -194,7 +200,8 @@ module _ (c : Context) (i : Instr) (bt : BlockType) (v : List Instr) (f : Signat
   loop_done ok r ys p e w y =
       IfOk-weaker r _ _ (λ b h. subst (λ z. TracksStep (Fits c z) xs o ys p b) (sym e) (loop_arm c bt v f xs o ys p b sig (subst (λ z. WellTyped (under c f.params) z f.params f.results) same (w.0 y)) h))
 
-  pub if_done : (u : List Instr) (us : List Instr) (ok more : Bool) (r : Result Bool AllocError) (ys : Stack) (p : Bool) → us ≡ u → i ≡ If bt v u → IsTrue ok ↔ WellTyped (under c f.results) is f.params f.results → ok ≡ true → IsTrue more ↔ WellTyped (under c f.results) us f.params f.results → more ≡ true → IfOk r (λ b. act (Gives (f.params ++ I32 ∷ []) f.results) xs o ≡ when b (ys, p)) → IfOk r (λ b. TracksStep (Fits c i) xs o ys p b)
+  pub if_done : (u : List Instr) (us : List Instr) (ok more : Bool) (r : Result Bool AllocError) (ys : Stack) (p : Bool) → us ≡ u → i ≡ If bt v u → IsTrue ok ↔ WellTyped (under c f.results) is f.params f.results → ok ≡ true → IsTrue more ↔ WellTyped (under c f.results) us f.params f.results →
+      more ≡ true → IfOk r (λ b. act (Gives (f.params ++ I32 ∷ []) f.results) xs o ≡ when b (ys, p)) → IfOk r (λ b. TracksStep (Fits c i) xs o ys p b)
   if_done u us ok more r ys p same_u e w y w2 y2 =
       IfOk-weaker r _ _ (λ b h. subst (λ z. TracksStep (Fits c z) xs o ys p b) (sym e) (if_arm c bt v u f xs o ys p b sig (subst (λ z. WellTyped (under c f.results) z f.params f.results) same (w.0 y)) (subst (λ z. WellTyped (under c f.results) z f.params f.results) same_u (w2.0 y2)) h))
 

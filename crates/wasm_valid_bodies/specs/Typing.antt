@@ -2,7 +2,10 @@
 -- instructions (WebAssembly Core 2.0, sections 3.3.8 and 3.3.9).
 use Rattle.std.specs.Prelude.{◌≡◌, ℕ, ◌^◌, Bool, true, false, ◌&&◌, nat_lt, nat_le, List, [], ◌∷◌, ◌++◌, map, reverse, Option, Some, None, slice_get, option_map, ◌⊎◌}
 use Rattle.base_lists.specs.Options.{◌>>=◌}
-use Rattle.wasm_tree_spec.specs.Prelude.{RefType, ValType, I32, I64, Ref, FuncType, BlockType, Value, GlobalType, MemArg, Instr, Row_of-Instr, end_of-Instr, more_of-Instr, Unreachable, Nop, Block', Loop', If', Br, BrIf, BrTable, Return, Call, CallIndirect, Drop, Select, SelectTyped, LocalGet, LocalSet, LocalTee, GlobalGet, GlobalSet, TableGet, TableSet, Load, Store, MemorySize, MemoryGrow, I32Const, I64Const, Un, Bin, RefNull, RefIsNull, RefFunc, MemoryInit, DataDrop, MemoryCopy, MemoryFill, TableInit, ElemDrop, TableCopy, TableGrow, TableSize, TableFill, same_ref, read_width, store_width}
+use Rattle.wasm_tree_spec.specs.Prelude.{RefType, ValType, I32, I64, Ref, FuncType, BlockType, Value, GlobalType, MemArg, Instr, Row_of-Instr, end_of-Instr, more_of-Instr, Unreachable, Nop, Block'}
+use Rattle.wasm_tree_spec.specs.Prelude.{Loop', If', Br, BrIf, BrTable, Return, Call, CallIndirect, Drop, Select, SelectTyped, LocalGet, LocalSet, LocalTee, GlobalGet, GlobalSet, TableGet, TableSet}
+use Rattle.wasm_tree_spec.specs.Prelude.{Load, Store, MemorySize, MemoryGrow, I32Const, I64Const, Un, Bin, RefNull, RefIsNull, RefFunc, MemoryInit, DataDrop, MemoryCopy, MemoryFill, TableInit}
+use Rattle.wasm_tree_spec.specs.Prelude.{ElemDrop, TableCopy, TableGrow, TableSize, TableFill, same_ref, read_width, store_width}
 use Rattle.wasm_tree.specs.declared.types.RefType.TheVariants.{Func, Extern}
 use Rattle.wasm_tree.specs.declared.types.BlockType.TheVariants.{Empty, Index}
 use Rattle.wasm_valid_bodies.specs.Ops.{un_operand, un_result, bin_operand, bin_result, load_type, store_type}
@@ -218,7 +221,8 @@ abbrev mutual
   Fits c (Loop' bt n body) s t =
       (f : Signature) × (signature_of c.types bt ≡ Some f) × LeadsToMatch (Leads (under c f.params) body) f.params f.results × Acts (Gives f.params f.results) s t
   Fits c (If' bt n body m other) s t =
-      (f : Signature) × (signature_of c.types bt ≡ Some f) × LeadsToMatch (Leads (under c f.results) body) f.params f.results × LeadsToMatch (Leads (under c f.results) other) f.params f.results × Acts (Gives (f.params ++ I32 ∷ []) f.results) s t
+      (f : Signature) × (signature_of c.types bt ≡ Some f) × LeadsToMatch (Leads (under c f.results) body) f.params f.results × LeadsToMatch (Leads (under c f.results) other) f.params f.results ×
+          Acts (Gives (f.params ++ I32 ∷ []) f.results) s t
   Fits c Unreachable s t = ActsAs (effect_of c Unreachable) s t
   Fits c Nop s t = ActsAs (effect_of c Nop) s t
   Fits c (Br l) s t = ActsAs (effect_of c (Br l)) s t

@@ -2,7 +2,8 @@ ghost use Rattle.std.specs.Prelude.{◌≡◌, ℕ, List, [], ◌∷◌, ◌+◌
 ghost use Rattle.base_lists.specs.Every.{Every};
 ghost use Rattle.wasm_write_proof.specs.Ranges.{IsU32, ConstInRange, ElemModeInRange, ElemInRange, DataModeInRange};
 ghost use Rattle.wasm_bytes.specs.Writing.{u32_text, sized_text};
-ghost use Rattle.wasm_write_spec.specs.PlainValues.{joined, each_text, vector_text, const_text, is_func, func_of, is_funcref, all_funcs, by_index, index_items, const_items, active_by_index, active_by_const, mode_by_index, mode_by_const, elem_text, data_mode_text, data_text};
+ghost use Rattle.wasm_write_spec.specs.PlainValues.{joined, each_text, vector_text, const_text, is_func, func_of, is_funcref, all_funcs, by_index, index_items, const_items, active_by_index};
+ghost use Rattle.wasm_write_spec.specs.PlainValues.{active_by_const, mode_by_index, mode_by_const, elem_text, data_mode_text, data_text};
 
 use crate::code::spell_index;
 use crate::numbers::{spell_number, spell_u32};

@@ -3,7 +3,8 @@ ghost use Rattle.std.specs.List.{list_all};
 ghost use Rattle.wasm_tree.specs.Operands.{block_operands};
 ghost use Rattle.wasm_write_proof.specs.Ranges.{small_operand, IsU32, LimitsInRange, ConstInRange, ImportDescInRange, ImportInRange, ExportDescInRange, ExportInRange};
 ghost use Rattle.wasm_bytes.specs.Writing.{u32_text, sized_text};
-ghost use Rattle.wasm_write_spec.specs.PlainValues.{ref_code, val_code, ref_text, val_text, func_type_text, limits_text, table_text, global_type_text, block_type_text, const_text, import_desc_text, import_text, global_text, export_desc_text, export_text};
+ghost use Rattle.wasm_write_spec.specs.PlainValues.{ref_code, val_code, ref_text, val_text, func_type_text, limits_text, table_text, global_type_text, block_type_text, const_text, import_desc_text};
+ghost use Rattle.wasm_write_spec.specs.PlainValues.{import_text, global_text, export_desc_text, export_text};
 
 use crate::code::{spell_i32_const, spell_i64_const, spell_index, spell_ref_null};
 use crate::numbers::{spell_s33, spell_u32};

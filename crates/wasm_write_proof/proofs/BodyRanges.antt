@@ -1,7 +1,8 @@
 -- What is spelled in a body is in range.
 use Rattle.base_lists.proofs.Common.{◌≡◌, ℕ, List, [], ◌∷◌, ◌++◌, Bool, true, false, cond, ◌&&◌, Option, Some, None, refl, sym, subst, rules, nat_eq, ◌==◌, ◌||◌, nat_le, list_all, and_from}
 use Rattle.wasm_bytes.specs.Prelude.{U32, Each}
-use Rattle.wasm_tree_spec.specs.Prelude.{ValType, BlockType, RefType, MemArg, LoadOp, StoreOp, Instr, the_lemmas, Unreachable, Nop, Block, Loop, If, Br, BrIf, BrTable, Return, Call, CallIndirect, Drop, Select, SelectTyped, LocalGet, LocalSet, LocalTee, GlobalGet, GlobalSet, TableGet, TableSet, Load, Store, MemorySize, MemoryGrow, I32Const, I64Const, Un, Bin, RefNull, RefIsNull, RefFunc, MemoryInit, DataDrop, MemoryCopy, MemoryFill, TableInit, ElemDrop, TableCopy, TableGrow, TableSize, TableFill, block_operands}
+use Rattle.wasm_tree_spec.specs.Prelude.{ValType, BlockType, RefType, MemArg, LoadOp, StoreOp, Instr, the_lemmas, Unreachable, Nop, Block, Loop, If, Br, BrIf, BrTable, Return, Call, CallIndirect, Drop, Select, SelectTyped, LocalGet, LocalSet, LocalTee, GlobalGet, GlobalSet, TableGet, TableSet, Load}
+use Rattle.wasm_tree_spec.specs.Prelude.{Store, MemorySize, MemoryGrow, I32Const, I64Const, Un, Bin, RefNull, RefIsNull, RefFunc, MemoryInit, DataDrop, MemoryCopy, MemoryFill, TableInit, ElemDrop, TableCopy, TableGrow, TableSize, TableFill, block_operands}
 use Rattle.wasm_tree.specs.declared.types.BlockType.TheVariants as block
 use Rattle.wasm_num.specs.declared.UnOp.{UnOp}
 use Rattle.wasm_num.specs.declared.BinOp.{BinOp}
@@ -10,7 +11,8 @@ use Rattle.wasm_read_spec.specs.declared.token.Opener.TheVariants as opener
 use Rattle.wasm_read_spec.specs.declared.token.Token.{Token}
 use Rattle.wasm_read_spec.specs.declared.token.Token.TheVariants.{Open, Else, End, Plain}
 use Rattle.base_lists.specs.Every.{Every}
-use Rattle.wasm_read_spec.specs.Prelude.{SpellsBlockType, un_of, bin_of, load_of, store_of, Form, plain, number, numbers, const32, const64, table, access, memory, memories, with_memory, null, open', else', end', prefixed, unsupported, unknown, SpellsMemArg, SpellsMemory, Simple, FollowsOpcode, SpellsToken, Nests, no_more, one_plain, one_block, one_loop, one_if, one_if_else, SpellsBody}
+use Rattle.wasm_read_spec.specs.Prelude.{SpellsBlockType, un_of, bin_of, load_of, store_of, Form, plain, number, numbers, const32, const64, table, access, memory, memories, with_memory, null, open', else', end', prefixed, unsupported, unknown, SpellsMemArg, SpellsMemory, Simple, FollowsOpcode}
+use Rattle.wasm_read_spec.specs.Prelude.{SpellsToken, Nests, no_more, one_plain, one_block, one_loop, one_if, one_if_else, SpellsBody}
 use Rattle.wasm_read_spec.specs.Tokens.{typed, form_or, the_form, rest_form, sub_form, arg_form}
 use Rattle.wasm_write_proof.specs.Ranges.{small, spellable, all_spellable, all_in_range, IsU32}
 use Rattle.wasm_write_proof.proofs.Inside.{in_range_of, Small, block_in, loop_in, if_in, more_in}
@@ -276,7 +278,8 @@ module _ (laws : RangeLaws) where
       if_sound (b == 0xD1) _ _ (plain_sound RefIsNull in_RefIsNull) (
       if_sound (b == 0xD2) _ _ (number_sound RefFunc in_RefFunc) (
       if_sound (b == 0xFC) _ _ (none_sound) (
-      if_sound ((nat_le 0x2A b && nat_le b 0x2B) || (nat_le 0x38 b && nat_le b 0x39) || (nat_le 0x43 b && nat_le b 0x44) || (nat_le 0x5B b && nat_le b 0x66) || (nat_le 0x8B b && nat_le b 0xA6) || (nat_le 0xA8 b && nat_le b 0xAB) || (nat_le 0xAE b && nat_le b 0xBF) || (nat_le 0xFD b && nat_le b 0xFD)) unsupported unknown none_sound none_sound)))))))))))))))))))))))))))))))
+      if_sound ((nat_le 0x2A b && nat_le b 0x2B) || (nat_le 0x38 b && nat_le b 0x39) || (nat_le 0x43 b && nat_le b 0x44) || (nat_le 0x5B b && nat_le b 0x66) || (nat_le 0x8B b && nat_le b 0xA6) || (nat_le 0xA8 b && nat_le b 0xAB) || (nat_le 0xAE b && nat_le b 0xBF) ||
+          (nat_le 0xFD b && nat_le b 0xFD)) unsupported unknown none_sound none_sound)))))))))))))))))))))))))))))))
 
   form_sound : (b : ℕ) → Sound (the_form b)
   unfolding the_form

@@ -7,12 +7,15 @@ use Rattle.wasm_num.specs.declared.UnOp.{UnOp}
 use Rattle.wasm_num.specs.declared.UnOp.TheVariants as un
 use Rattle.wasm_num.specs.declared.BinOp.{BinOp}
 use Rattle.wasm_num.specs.declared.BinOp.TheVariants as bin
-use Rattle.wasm_tree_spec.specs.Prelude.{LoadOp, StoreOp, MemArg, Instr, map-Instr, Unreachable, Nop, Br, BrIf, BrTable, Return, Call, CallIndirect, Drop, Select, SelectTyped, LocalGet, LocalSet, LocalTee, GlobalGet, GlobalSet, TableGet, TableSet, Load, Store, MemorySize, MemoryGrow, I32Const, I64Const, Un, Bin, RefNull, RefIsNull, RefFunc, MemoryInit, DataDrop, MemoryCopy, MemoryFill, TableInit, ElemDrop, TableCopy, TableGrow, TableSize, TableFill}
+use Rattle.wasm_tree_spec.specs.Prelude.{LoadOp, StoreOp, MemArg, Instr, map-Instr, Unreachable, Nop, Br, BrIf, BrTable, Return, Call, CallIndirect, Drop, Select, SelectTyped, LocalGet, LocalSet, LocalTee, GlobalGet, GlobalSet, TableGet, TableSet, Load, Store, MemorySize, MemoryGrow, I32Const}
+use Rattle.wasm_tree_spec.specs.Prelude.{I64Const, Un, Bin, RefNull, RefIsNull, RefFunc, MemoryInit, DataDrop, MemoryCopy, MemoryFill, TableInit, ElemDrop, TableCopy, TableGrow, TableSize, TableFill}
 use Rattle.wasm_tree.specs.declared.instr.LoadOp.TheVariants as load
 use Rattle.wasm_tree.specs.declared.instr.StoreOp.TheVariants as store
 use Rattle.wasm_tree.specs.declared.instr.Instr.{ind-Instr, fold-roll-Instr, out-roll-Instr, roll-Instr}
 use Rattle.wasm_tree.specs.declared.instr.Instr.TheOpen.{Instr-F}
-use Rattle.wasm_tree.specs.declared.instr.Instr.TheVariants.{rolls-Unreachable, rolls-Nop, rolls-Block, rolls-Loop, rolls-If, rolls-Br, rolls-BrIf, rolls-BrTable, rolls-Return, rolls-Call, rolls-CallIndirect, rolls-Drop, rolls-Select, rolls-SelectTyped, rolls-LocalGet, rolls-LocalSet, rolls-LocalTee, rolls-GlobalGet, rolls-GlobalSet, rolls-TableGet, rolls-TableSet, rolls-Load, rolls-Store, rolls-MemorySize, rolls-MemoryGrow, rolls-I32Const, rolls-I64Const, rolls-Un, rolls-Bin, rolls-RefNull, rolls-RefIsNull, rolls-RefFunc, rolls-MemoryInit, rolls-DataDrop, rolls-MemoryCopy, rolls-MemoryFill, rolls-TableInit, rolls-ElemDrop, rolls-TableCopy, rolls-TableGrow, rolls-TableSize, rolls-TableFill}
+use Rattle.wasm_tree.specs.declared.instr.Instr.TheVariants.{rolls-Unreachable, rolls-Nop, rolls-Block, rolls-Loop, rolls-If, rolls-Br, rolls-BrIf, rolls-BrTable, rolls-Return, rolls-Call, rolls-CallIndirect, rolls-Drop, rolls-Select, rolls-SelectTyped, rolls-LocalGet, rolls-LocalSet}
+use Rattle.wasm_tree.specs.declared.instr.Instr.TheVariants.{rolls-LocalTee, rolls-GlobalGet, rolls-GlobalSet, rolls-TableGet, rolls-TableSet, rolls-Load, rolls-Store, rolls-MemorySize, rolls-MemoryGrow, rolls-I32Const, rolls-I64Const, rolls-Un, rolls-Bin, rolls-RefNull, rolls-RefIsNull}
+use Rattle.wasm_tree.specs.declared.instr.Instr.TheVariants.{rolls-RefFunc, rolls-MemoryInit, rolls-DataDrop, rolls-MemoryCopy, rolls-MemoryFill, rolls-TableInit, rolls-ElemDrop, rolls-TableCopy, rolls-TableGrow, rolls-TableSize, rolls-TableFill}
 use Rattle.wasm_read_spec.specs.declared.token.Opener.TheVariants as opener
 use Rattle.wasm_read_spec.specs.declared.token.Token.{Token}
 use Rattle.wasm_read_spec.specs.declared.token.Token.TheVariants.{Open, Else, End, Plain}
@@ -290,13 +293,16 @@ node laws (Instr-F.Bin op) h k = rw rolls-Bin (leaf (Bin op) (bin_code op) [] (r
 node laws (Instr-F.RefNull t) h k = rw rolls-RefNull (leaf (RefNull t) 0xD0 (ref_text t) (t, ref_spells t, refl))
 node laws Instr-F.RefIsNull h k = rw rolls-RefIsNull (leaf RefIsNull 0xD1 [] (refl, refl))
 node laws (Instr-F.RefFunc x) h k = rw rolls-RefFunc (leaf (RefFunc x) 0xD2 (u32_text x) (x, u32_spells laws x (below x h.0.0), refl))
-node laws (Instr-F.MemoryInit x m) h k = rw rolls-MemoryInit (leaf (MemoryInit x m) 0xFC (8 ∷ u32_text x ++ u32_text m) (8, (8 ∷ [], u32_text x ++ u32_text m, flag_spells 8 (omega arith), ((x, m), (u32_text x, u32_text m, u32_spells laws x (below x h.0.0), memory_spells m h.0.1.0, refl), refl), refl)))
+node laws (Instr-F.MemoryInit x m) h k = rw rolls-MemoryInit (leaf (MemoryInit x m) 0xFC (8 ∷ u32_text x ++ u32_text m)
+    (8, (8 ∷ [], u32_text x ++ u32_text m, flag_spells 8 (omega arith), ((x, m), (u32_text x, u32_text m, u32_spells laws x (below x h.0.0), memory_spells m h.0.1.0, refl), refl), refl)))
 node laws (Instr-F.DataDrop x) h k = rw rolls-DataDrop (leaf (DataDrop x) 0xFC (9 ∷ u32_text x) (9, (9 ∷ [], u32_text x, flag_spells 9 (omega arith), (x, u32_spells laws x (below x h.0.0), refl), refl)))
 node laws (Instr-F.MemoryCopy x y) h k = rw rolls-MemoryCopy (leaf (MemoryCopy x y) 0xFC (10 ∷ u32_text x ++ u32_text y) (10, (10 ∷ [], u32_text x ++ u32_text y, flag_spells 10 (omega arith), ((x, y), (u32_text x, u32_text y, memory_spells x h.0.0, memory_spells y h.0.1.0, refl), refl), refl)))
 node laws (Instr-F.MemoryFill m) h k = rw rolls-MemoryFill (leaf (MemoryFill m) 0xFC (11 ∷ u32_text m) (11, (11 ∷ [], u32_text m, flag_spells 11 (omega arith), (m, memory_spells m h.0.0, refl), refl)))
-node laws (Instr-F.TableInit x y) h k = rw rolls-TableInit (leaf (TableInit x y) 0xFC (12 ∷ u32_text x ++ u32_text y) (12, (12 ∷ [], u32_text x ++ u32_text y, flag_spells 12 (omega arith), ((x, y), (u32_text x, u32_text y, u32_spells laws x (below x h.0.0), u32_spells laws y (below y h.0.1.0), refl), refl), refl)))
+node laws (Instr-F.TableInit x y) h k = rw rolls-TableInit (leaf (TableInit x y) 0xFC (12 ∷ u32_text x ++ u32_text y)
+    (12, (12 ∷ [], u32_text x ++ u32_text y, flag_spells 12 (omega arith), ((x, y), (u32_text x, u32_text y, u32_spells laws x (below x h.0.0), u32_spells laws y (below y h.0.1.0), refl), refl), refl)))
 node laws (Instr-F.ElemDrop x) h k = rw rolls-ElemDrop (leaf (ElemDrop x) 0xFC (13 ∷ u32_text x) (13, (13 ∷ [], u32_text x, flag_spells 13 (omega arith), (x, u32_spells laws x (below x h.0.0), refl), refl)))
-node laws (Instr-F.TableCopy x y) h k = rw rolls-TableCopy (leaf (TableCopy x y) 0xFC (14 ∷ u32_text x ++ u32_text y) (14, (14 ∷ [], u32_text x ++ u32_text y, flag_spells 14 (omega arith), ((x, y), (u32_text x, u32_text y, u32_spells laws x (below x h.0.0), u32_spells laws y (below y h.0.1.0), refl), refl), refl)))
+node laws (Instr-F.TableCopy x y) h k = rw rolls-TableCopy (leaf (TableCopy x y) 0xFC (14 ∷ u32_text x ++ u32_text y)
+    (14, (14 ∷ [], u32_text x ++ u32_text y, flag_spells 14 (omega arith), ((x, y), (u32_text x, u32_text y, u32_spells laws x (below x h.0.0), u32_spells laws y (below y h.0.1.0), refl), refl), refl)))
 node laws (Instr-F.TableGrow x) h k = rw rolls-TableGrow (leaf (TableGrow x) 0xFC (15 ∷ u32_text x) (15, (15 ∷ [], u32_text x, flag_spells 15 (omega arith), (x, u32_spells laws x (below x h.0.0), refl), refl)))
 node laws (Instr-F.TableSize x) h k = rw rolls-TableSize (leaf (TableSize x) 0xFC (16 ∷ u32_text x) (16, (16 ∷ [], u32_text x, flag_spells 16 (omega arith), (x, u32_spells laws x (below x h.0.0), refl), refl)))
 node laws (Instr-F.TableFill x) h k = rw rolls-TableFill (leaf (TableFill x) 0xFC (17 ∷ u32_text x) (17, (17 ∷ [], u32_text x, flag_spells 17 (omega arith), (x, u32_spells laws x (below x h.0.0), refl), refl)))

@@ -7,7 +7,8 @@ use Rattle.wasm_bytes.specs.Writing.{unsigned_text}
 use Rattle.wasm_tree_spec.specs.Prelude.{FuncType, Limits, TableType, Func, Import, GlobalDef, Export, ElemSeg, DataSeg, Module, any_uses_data, memory_zero_funcs, limit, Imports, Exports}
 use Rattle.wasm_read_spec.specs.declared.parts.Parts.{Parts}
 use Rattle.base_lists.specs.Every.{Every}
-use Rattle.wasm_read_spec.specs.Prelude.{SmallFuncType, SpellsFuncType, SpellsTable, SpellsLimits, SpellsImport, SpellsGlobalDef, SpellsExport, SpellsElem, SpellsData, SpellsEntry, SmallCode, Any, Few, Limited, SectionIsSmall, Within, nothing, with_types, with_imports, with_func_types, with_tables, with_mems, with_globals, with_exports, with_elems, with_codes, with_datas, SectionContents, typed, tree_of, Spells, HasSmallCode, code_in, untyped}
+use Rattle.wasm_read_spec.specs.Prelude.{SmallFuncType, SpellsFuncType, SpellsTable, SpellsLimits, SpellsImport, SpellsGlobalDef, SpellsExport, SpellsElem, SpellsData, SpellsEntry, SmallCode, Any, Few, Limited, SectionIsSmall, Within, nothing, with_types, with_imports, with_func_types, with_tables}
+use Rattle.wasm_read_spec.specs.Prelude.{with_mems, with_globals, with_exports, with_elems, with_codes, with_datas, SectionContents, typed, tree_of, Spells, HasSmallCode, code_in, untyped}
 use Rattle.wasm_tree.specs.declared.which.Which.TheVariants.{Types, Functions, Tables, Memories, Globals, ElementSegments, DataSegments}
 use Rattle.wasm_read_spec.specs.Files.{small_form, section_form, Counted, Rules}
 use Rattle.wasm_read_spec.specs.Unambiguous.{IsPrefixFree, ItemsArePrefixFree, FramesAreUnique}
@@ -188,7 +189,8 @@ module _ (laws : TextLaws) (free : ItemsArePrefixFree) where
 
   types_small : (m : Module) → InRange m → length (vector_text func_type_text m.types) < 2 ^ 32 → WithinLimits m → small_form false 1 (vector_text func_type_text m.types)
   unfolding small_form
-  types_small m r few w = small_items SpellsFuncType (Few (limit Types) SmallFuncType) (vector_text func_type_text m.types) (map (λ (x : FuncType). x) m.types) free.types (items laws (λ (t : FuncType). Unit {0}) SpellsFuncType func_type_text m.types func_type_some (λ t u few. func_type_spells laws t few) (every_of (λ (t : FuncType). Unit {0}) m.types (λ t. tt)) few) (subst (Few (limit Types) SmallFuncType) (sym (map_id m.types)) w.types)
+  types_small m r few w = small_items SpellsFuncType (Few (limit Types) SmallFuncType) (vector_text func_type_text m.types) (map (λ (x : FuncType). x) m.types) free.types
+      (items laws (λ (t : FuncType). Unit {0}) SpellsFuncType func_type_text m.types func_type_some (λ t u few. func_type_spells laws t few) (every_of (λ (t : FuncType). Unit {0}) m.types (λ t. tt)) few) (subst (Few (limit Types) SmallFuncType) (sym (map_id m.types)) w.types)
 
   types_more : (m : Module) (q : Parts) (bytes : List ℕ) → InRange m → length (vector_text func_type_text m.types) < 2 ^ 32 → Rest (WithinLimits m) 1 (p1 m) bytes q → Rest (WithinLimits m) 0 nothing (list_section 1 func_type_text m.types ++ bytes) q
   types_more m q bytes r few rest =
@@ -200,7 +202,8 @@ module _ (laws : TextLaws) (free : ItemsArePrefixFree) where
 
   imports_small : (m : Module) → InRange m → length (vector_text import_text m.imports) < 2 ^ 32 → WithinLimits m → small_form false 2 (vector_text import_text m.imports)
   unfolding small_form
-  imports_small m r few w = small_items SpellsImport (Few (limit Imports) Any) (vector_text import_text m.imports) (map (λ (x : Import). x) m.imports) free.imports (items laws ImportInRange SpellsImport import_text m.imports import_some (import_spells laws) r.imports few) (few_any (limit Imports) m.imports w.imports)
+  imports_small m r few w = small_items SpellsImport (Few (limit Imports) Any) (vector_text import_text m.imports) (map (λ (x : Import). x) m.imports) free.imports (items laws ImportInRange SpellsImport import_text m.imports import_some (import_spells laws) r.imports few)
+      (few_any (limit Imports) m.imports w.imports)
 
   imports_more : (m : Module) (q : Parts) (bytes : List ℕ) → InRange m → length (vector_text import_text m.imports) < 2 ^ 32 → Rest (WithinLimits m) 2 (p2 m) bytes q → Rest (WithinLimits m) 1 (p1 m) (list_section 2 import_text m.imports ++ bytes) q
   imports_more m q bytes r few rest =
@@ -212,7 +215,8 @@ module _ (laws : TextLaws) (free : ItemsArePrefixFree) where
 
   func_section_small : (m : Module) → InRange m → length (vector_text (λ (f : Func). u32_text f.ty) m.funcs) < 2 ^ 32 → WithinLimits m → small_form false 3 (vector_text (λ (f : Func). u32_text f.ty) m.funcs)
   unfolding small_form
-  func_section_small m r few w = small_items U32 (Few (limit Functions) Any) (vector_text (λ (f : Func). u32_text f.ty) m.funcs) (map (λ (f : Func). f.ty) m.funcs) free.func_types (func_types laws m.funcs r.funcs few) ((rw (length-map m.funcs (λ (f : Func). f.ty)) w.funcs.0, every_any (map (λ (f : Func). f.ty) m.funcs)))
+  func_section_small m r few w = small_items U32 (Few (limit Functions) Any) (vector_text (λ (f : Func). u32_text f.ty) m.funcs) (map (λ (f : Func). f.ty) m.funcs) free.func_types (func_types laws m.funcs r.funcs few)
+      ((rw (length-map m.funcs (λ (f : Func). f.ty)) w.funcs.0, every_any (map (λ (f : Func). f.ty) m.funcs)))
 
   func_section_more : (m : Module) (q : Parts) (bytes : List ℕ) → InRange m → length (vector_text (λ (f : Func). u32_text f.ty) m.funcs) < 2 ^ 32 → Rest (WithinLimits m) 3 (p3 m) bytes q → Rest (WithinLimits m) 2 (p2 m) (list_section 3 (λ (f : Func). u32_text f.ty) m.funcs ++ bytes) q
   func_section_more m q bytes r few rest =
@@ -224,7 +228,8 @@ module _ (laws : TextLaws) (free : ItemsArePrefixFree) where
 
   tables_small : (m : Module) → InRange m → length (vector_text table_text m.tables) < 2 ^ 32 → WithinLimits m → small_form false 4 (vector_text table_text m.tables)
   unfolding small_form
-  tables_small m r few w = small_items SpellsTable (Few (limit Tables) Any) (vector_text table_text m.tables) (map (λ (x : TableType). x) m.tables) free.tables (items laws (λ (t : TableType). LimitsInRange t.limits) SpellsTable table_text m.tables table_some (λ t h few. table_spells laws t h) r.tables few) (few_any (limit Tables) m.tables w.tables)
+  tables_small m r few w = small_items SpellsTable (Few (limit Tables) Any) (vector_text table_text m.tables) (map (λ (x : TableType). x) m.tables) free.tables
+      (items laws (λ (t : TableType). LimitsInRange t.limits) SpellsTable table_text m.tables table_some (λ t h few. table_spells laws t h) r.tables few) (few_any (limit Tables) m.tables w.tables)
 
   tables_more : (m : Module) (q : Parts) (bytes : List ℕ) → InRange m → length (vector_text table_text m.tables) < 2 ^ 32 → Rest (WithinLimits m) 4 (p4 m) bytes q → Rest (WithinLimits m) 3 (p3 m) (list_section 4 table_text m.tables ++ bytes) q
   tables_more m q bytes r few rest =
@@ -236,7 +241,8 @@ module _ (laws : TextLaws) (free : ItemsArePrefixFree) where
 
   mems_small : (m : Module) → InRange m → length (vector_text limits_text m.mems) < 2 ^ 32 → WithinLimits m → small_form false 5 (vector_text limits_text m.mems)
   unfolding small_form
-  mems_small m r few w = small_items SpellsLimits (Few (limit Memories) Any) (vector_text limits_text m.mems) (map (λ (x : Limits). x) m.mems) free.mems (items laws LimitsInRange SpellsLimits limits_text m.mems limits_some (λ l h few. limits_spells laws l h) r.mems few) (few_any (limit Memories) m.mems w.mems)
+  mems_small m r few w = small_items SpellsLimits (Few (limit Memories) Any) (vector_text limits_text m.mems) (map (λ (x : Limits). x) m.mems) free.mems (items laws LimitsInRange SpellsLimits limits_text m.mems limits_some (λ l h few. limits_spells laws l h) r.mems few)
+      (few_any (limit Memories) m.mems w.mems)
 
   mems_more : (m : Module) (q : Parts) (bytes : List ℕ) → InRange m → length (vector_text limits_text m.mems) < 2 ^ 32 → Rest (WithinLimits m) 5 (p5 m) bytes q → Rest (WithinLimits m) 4 (p4 m) (list_section 5 limits_text m.mems ++ bytes) q
   mems_more m q bytes r few rest =
@@ -248,7 +254,8 @@ module _ (laws : TextLaws) (free : ItemsArePrefixFree) where
 
   globals_small : (m : Module) → InRange m → length (vector_text global_text m.globals) < 2 ^ 32 → WithinLimits m → small_form false 6 (vector_text global_text m.globals)
   unfolding small_form
-  globals_small m r few w = small_items SpellsGlobalDef (Few (limit Globals) Any) (vector_text global_text m.globals) (map (λ (x : GlobalDef). x) m.globals) free.globals (items laws (λ (g : GlobalDef). ConstInRange g.init) SpellsGlobalDef global_text m.globals global_some (λ g h few. global_spells laws g h) r.globals few) (few_any (limit Globals) m.globals w.globals)
+  globals_small m r few w = small_items SpellsGlobalDef (Few (limit Globals) Any) (vector_text global_text m.globals) (map (λ (x : GlobalDef). x) m.globals) free.globals
+      (items laws (λ (g : GlobalDef). ConstInRange g.init) SpellsGlobalDef global_text m.globals global_some (λ g h few. global_spells laws g h) r.globals few) (few_any (limit Globals) m.globals w.globals)
 
   globals_more : (m : Module) (q : Parts) (bytes : List ℕ) → InRange m → length (vector_text global_text m.globals) < 2 ^ 32 → Rest (WithinLimits m) 6 (p6 m) bytes q → Rest (WithinLimits m) 5 (p5 m) (list_section 6 global_text m.globals ++ bytes) q
   globals_more m q bytes r few rest =
@@ -260,7 +267,8 @@ module _ (laws : TextLaws) (free : ItemsArePrefixFree) where
 
   exports_small : (m : Module) → InRange m → length (vector_text export_text m.exports) < 2 ^ 32 → WithinLimits m → small_form false 7 (vector_text export_text m.exports)
   unfolding small_form
-  exports_small m r few w = small_items SpellsExport (Few (limit Exports) Any) (vector_text export_text m.exports) (map (λ (x : Export). x) m.exports) free.exports (items laws ExportInRange SpellsExport export_text m.exports export_some (export_spells laws) r.exports few) (few_any (limit Exports) m.exports w.exports)
+  exports_small m r few w = small_items SpellsExport (Few (limit Exports) Any) (vector_text export_text m.exports) (map (λ (x : Export). x) m.exports) free.exports (items laws ExportInRange SpellsExport export_text m.exports export_some (export_spells laws) r.exports few)
+      (few_any (limit Exports) m.exports w.exports)
 
   exports_more : (m : Module) (q : Parts) (bytes : List ℕ) → InRange m → length (vector_text export_text m.exports) < 2 ^ 32 → Rest (WithinLimits m) 7 (p7 m) bytes q → Rest (WithinLimits m) 6 (p6 m) (list_section 7 export_text m.exports ++ bytes) q
   exports_more m q bytes r few rest =
@@ -272,7 +280,8 @@ module _ (laws : TextLaws) (free : ItemsArePrefixFree) where
 
   elems_small : (m : Module) → InRange m → length (vector_text elem_text m.elems) < 2 ^ 32 → WithinLimits m → small_form false 9 (vector_text elem_text m.elems)
   unfolding small_form
-  elems_small m r few w = small_items SpellsElem (Few (limit ElementSegments) Any) (vector_text elem_text m.elems) (map (λ (x : ElemSeg). x) m.elems) free.elems (items laws ElemInRange SpellsElem elem_text m.elems elem_some (elem_spells laws) r.elems few) (few_any (limit ElementSegments) m.elems w.elems)
+  elems_small m r few w = small_items SpellsElem (Few (limit ElementSegments) Any) (vector_text elem_text m.elems) (map (λ (x : ElemSeg). x) m.elems) free.elems (items laws ElemInRange SpellsElem elem_text m.elems elem_some (elem_spells laws) r.elems few)
+      (few_any (limit ElementSegments) m.elems w.elems)
 
   elems_more : (m : Module) (q : Parts) (bytes : List ℕ) → InRange m → length (vector_text elem_text m.elems) < 2 ^ 32 → Rest (WithinLimits m) 9 (p9 m) bytes q → Rest (WithinLimits m) 8 (p8 m) (list_section 9 elem_text m.elems ++ bytes) q
   elems_more m q bytes r few rest =
@@ -296,7 +305,8 @@ module _ (laws : TextLaws) (free : ItemsArePrefixFree) where
 
   datas_small : (m : Module) → InRange m → length (vector_text data_text m.datas) < 2 ^ 32 → WithinLimits m → small_form false 11 (vector_text data_text m.datas)
   unfolding small_form
-  datas_small m r few w = small_items SpellsData (Few (limit DataSegments) Any) (vector_text data_text m.datas) (map (λ (x : DataSeg). x) m.datas) free.datas (items laws (λ (s : DataSeg). DataModeInRange s.mode) SpellsData data_text m.datas data_some (data_spells laws) r.datas few) (few_any (limit DataSegments) m.datas w.datas)
+  datas_small m r few w = small_items SpellsData (Few (limit DataSegments) Any) (vector_text data_text m.datas) (map (λ (x : DataSeg). x) m.datas) free.datas (items laws (λ (s : DataSeg). DataModeInRange s.mode) SpellsData data_text m.datas data_some (data_spells laws) r.datas few)
+      (few_any (limit DataSegments) m.datas w.datas)
 
   datas_more : (m : Module) (q : Parts) (bytes : List ℕ) → InRange m → length (vector_text data_text m.datas) < 2 ^ 32 → Rest (WithinLimits m) 12 (p12 m) bytes q → Rest (WithinLimits m) 11 (p11 m) (list_section 11 data_text m.datas ++ bytes) q
   datas_more m q bytes r few rest =
@@ -358,7 +368,8 @@ regroup h a1 a2 a3 a4 a5 a6 a7 a8 a9 a10 a11 a12 =
 
 plain_regrouped : (m : Module) → plain m ≡ header ++ t1 m
 unfolding plain
-plain_regrouped m = regroup header (list_section 1 func_type_text m.types) (list_section 2 import_text m.imports) (list_section 3 (λ (f : Func). u32_text f.ty) m.funcs) (list_section 4 table_text m.tables) (list_section 5 limits_text m.mems) (list_section 6 global_text m.globals) (list_section 7 export_text m.exports) (start_section m.start) (list_section 9 elem_text m.elems) (count_section m) (list_section 10 entry_text m.funcs) (list_section 11 data_text m.datas)
+plain_regrouped m = regroup header (list_section 1 func_type_text m.types) (list_section 2 import_text m.imports) (list_section 3 (λ (f : Func). u32_text f.ty) m.funcs) (list_section 4 table_text m.tables) (list_section 5 limits_text m.mems) (list_section 6 global_text m.globals)
+    (list_section 7 export_text m.exports) (start_section m.start) (list_section 9 elem_text m.elems) (count_section m) (list_section 10 entry_text m.funcs) (list_section 11 data_text m.datas)
 
 all_sections : TextLaws → ItemsArePrefixFree → (m : Module) → InRange m → memory_zero_funcs m.funcs ≡ true → SmallSizes m → Rest (WithinLimits m) 0 nothing (t1 m) (p12 m)
 all_sections laws free m r one s =

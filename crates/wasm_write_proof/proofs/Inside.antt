@@ -1,7 +1,8 @@
 -- What is in range in an instruction: its operands, its other numbers, and what it holds.
 use Rattle.base_lists.proofs.Common.{◌≡◌, arith, ℕ, Bool, true, false, ◌||◌, not, nat_eq, List, [], ◌∷◌, ◌++◌, refl, sym, ap, ◌∙◌, subst, list_all, if◌then◌else◌, nat_tests, and_from, left_true, right_true}
 use Rattle.base_lists.specs.Every.{Every}
-use Rattle.wasm_tree_spec.specs.Prelude.{Space, Memories, Operand, BlockType, Instr, fold_out-Instr, map-Instr, Block, Loop, If, outs-Block, outs-Loop, outs-If, same_space, operands, operands_of, block_operands, held, map_operands, operands_pass, all_operands_pass, is_memory_zero, memory_zero_all, PassesInside}
+use Rattle.wasm_tree_spec.specs.Prelude.{Space, Memories, Operand, BlockType, Instr, fold_out-Instr, map-Instr, Block, Loop, If, outs-Block, outs-Loop, outs-If, same_space, operands, operands_of, block_operands, held, map_operands, operands_pass, all_operands_pass, is_memory_zero, memory_zero_all}
+use Rattle.wasm_tree_spec.specs.Prelude.{PassesInside}
 use Rattle.wasm_tree.specs.declared.instr.Instr.{out-Instr}
 use Rattle.wasm_tree.specs.declared.instr.Instr.TheOpen.{Instr-F}
 use Rattle.wasm_tree.specs.Operands.{map_block, mapped}

@@ -3,7 +3,8 @@
 use Rattle.std.specs.Prelude.{◌≡◌, ℕ, ◌^◌, ◌<◌, List, Bool, true, ◌&&◌, if◌then◌else◌, nat_lt, nat_eq, Option, Some, None, ℤ, pos, negsuc, IsTrue, IsUtf8}
 use Rattle.std.specs.List.{list_all}
 use Rattle.wasm_bytes.specs.Prelude.{IsWithin}
-use Rattle.wasm_tree_spec.specs.Prelude.{Limits, TableType, Space, Memories, Operand, Instr, fold-Instr, ImportDesc, Import, ExportDesc, Export, ConstExpr, GlobalDef, ElemMode, ElemSeg, DataMode, DataSeg, LocalGroup, Func, Module, same_space, held, mapped_all, operands_pass, all_operands_pass}
+use Rattle.wasm_tree_spec.specs.Prelude.{Limits, TableType, Space, Memories, Operand, Instr, fold-Instr, ImportDesc, Import, ExportDesc, Export, ConstExpr, GlobalDef, ElemMode, ElemSeg, DataMode}
+use Rattle.wasm_tree_spec.specs.Prelude.{DataSeg, LocalGroup, Func, Module, same_space, held, mapped_all, operands_pass, all_operands_pass}
 use Rattle.wasm_tree.specs.declared.instr.Instr.{out-Instr}
 use Rattle.wasm_tree.specs.declared.instr.Instr.TheOpen.{Instr-F}
 use Rattle.wasm_tree.specs.declared.module.ImportDesc.TheVariants as import

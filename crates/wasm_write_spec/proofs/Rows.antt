@@ -18,7 +18,8 @@ use Rattle.wasm_tree.specs.declared.module.ElemMode.TheVariants as elem
 use Rattle.wasm_tree.specs.declared.module.DataMode.TheVariants as segment
 use Rattle.wasm_bytes.specs.Prelude.{u32_text}
 use Rattle.wasm_bytes.specs.Writing.{unsigned_text, signed_text}
-use Rattle.wasm_write_spec.specs.PlainValues.{ref_code, val_code, func_type_text, limits_text, table_text, global_type_text, global_text, block_type_text, const_text, import_text, import_desc_text, export_text, export_desc_text, is_func, func_of, is_funcref, index_items, const_items, elem_text, data_text}
+use Rattle.wasm_write_spec.specs.PlainValues.{ref_code, val_code, func_type_text, limits_text, table_text, global_type_text, global_text, block_type_text, const_text, import_text, import_desc_text, export_text, export_desc_text, is_func, func_of, is_funcref, index_items, const_items, elem_text}
+use Rattle.wasm_write_spec.specs.PlainValues.{data_text}
 use Rattle.wasm_write_spec.specs.PlainCode.{un_code, bin_code, load_code, store_code, group_text, instr_step, instrs_text, entry_text}
 use Rattle.wasm_write_spec.specs.Plain.{plain}
 
@@ -72,12 +73,14 @@ what_is_not_code : plain (record empty {
   exports = record { name = []; desc = export.Global 1 } ∷ [];
   start = Some 0;
 }) ≡
-    0x00 ∷ 0x61 ∷ 0x73 ∷ 0x6D ∷ 0x01 ∷ 0x00 ∷ 0x00 ∷ 0x00 ∷ 0x01 ∷ 0x06 ∷ 0x01 ∷ 0x60 ∷ 0x02 ∷ 0x7E ∷ 0x70 ∷ 0x00 ∷ 0x02 ∷ 0x10 ∷ 0x02 ∷ 0x01 ∷ 0x61 ∷ 0x02 ∷ 0x62 ∷ 0x63 ∷ 0x00 ∷ 0x00 ∷ 0x00 ∷ 0x01 ∷ 0x64 ∷ 0x02 ∷ 0x01 ∷ 0x01 ∷ 0x80 ∷ 0x01 ∷ 0x04 ∷ 0x04 ∷ 0x01 ∷ 0x6F ∷ 0x00 ∷ 0x03 ∷ 0x05 ∷ 0x03 ∷ 0x01 ∷ 0x00 ∷ 0x00 ∷ 0x06 ∷ 0x0B ∷ 0x02 ∷ 0x7E ∷ 0x01 ∷ 0x42 ∷ 0x7F ∷ 0x0B ∷ 0x6F ∷ 0x00 ∷ 0xD0 ∷ 0x6F ∷ 0x0B ∷ 0x07 ∷ 0x04 ∷ 0x01 ∷ 0x00 ∷ 0x03 ∷ 0x01 ∷ 0x08 ∷ 0x01 ∷ 0x00 ∷ []
+    0x00 ∷ 0x61 ∷ 0x73 ∷ 0x6D ∷ 0x01 ∷ 0x00 ∷ 0x00 ∷ 0x00 ∷ 0x01 ∷ 0x06 ∷ 0x01 ∷ 0x60 ∷ 0x02 ∷ 0x7E ∷ 0x70 ∷ 0x00 ∷ 0x02 ∷ 0x10 ∷ 0x02 ∷ 0x01 ∷ 0x61 ∷ 0x02 ∷ 0x62 ∷ 0x63 ∷ 0x00 ∷ 0x00 ∷ 0x00 ∷ 0x01 ∷ 0x64 ∷ 0x02 ∷ 0x01 ∷ 0x01 ∷ 0x80 ∷ 0x01 ∷ 0x04 ∷ 0x04 ∷ 0x01 ∷ 0x6F ∷ 0x00 ∷ 0x03 ∷ 0x05 ∷ 0x03 ∷
+        0x01 ∷ 0x00 ∷ 0x00 ∷ 0x06 ∷ 0x0B ∷ 0x02 ∷ 0x7E ∷ 0x01 ∷ 0x42 ∷ 0x7F ∷ 0x0B ∷ 0x6F ∷ 0x00 ∷ 0xD0 ∷ 0x6F ∷ 0x0B ∷ 0x07 ∷ 0x04 ∷ 0x01 ∷ 0x00 ∷ 0x03 ∷ 0x01 ∷ 0x08 ∷ 0x01 ∷ 0x00 ∷ []
 unfolding plain func_type_text val_code ref_code import_text import_desc_text limits_text table_text global_text global_type_text const_text export_text export_desc_text unsigned_text signed_text
 what_is_not_code = refl
 
 a_count_where_a_body_has_memory_init : plain (with_data (num 0 ∷ num 0 ∷ num 2 ∷ i.MemoryInit 0 0 ∷ [])) ≡
-    0x00 ∷ 0x61 ∷ 0x73 ∷ 0x6D ∷ 0x01 ∷ 0x00 ∷ 0x00 ∷ 0x00 ∷ 0x01 ∷ 0x04 ∷ 0x01 ∷ 0x60 ∷ 0x00 ∷ 0x00 ∷ 0x03 ∷ 0x02 ∷ 0x01 ∷ 0x00 ∷ 0x0C ∷ 0x01 ∷ 0x01 ∷ 0x0A ∷ 0x0E ∷ 0x01 ∷ 0x0C ∷ 0x00 ∷ 0x41 ∷ 0x00 ∷ 0x41 ∷ 0x00 ∷ 0x41 ∷ 0x02 ∷ 0xFC ∷ 0x08 ∷ 0x00 ∷ 0x00 ∷ 0x0B ∷ 0x0B ∷ 0x05 ∷ 0x01 ∷ 0x01 ∷ 0x02 ∷ 0x68 ∷ 0x69 ∷ []
+    0x00 ∷ 0x61 ∷ 0x73 ∷ 0x6D ∷ 0x01 ∷ 0x00 ∷ 0x00 ∷ 0x00 ∷ 0x01 ∷ 0x04 ∷ 0x01 ∷ 0x60 ∷ 0x00 ∷ 0x00 ∷ 0x03 ∷ 0x02 ∷ 0x01 ∷ 0x00 ∷ 0x0C ∷ 0x01 ∷ 0x01 ∷ 0x0A ∷ 0x0E ∷ 0x01 ∷ 0x0C ∷ 0x00 ∷ 0x41 ∷ 0x00 ∷ 0x41 ∷ 0x00 ∷ 0x41 ∷ 0x02 ∷ 0xFC ∷ 0x08 ∷ 0x00 ∷ 0x00 ∷ 0x0B ∷ 0x0B ∷ 0x05 ∷ 0x01 ∷ 0x01 ∷ 0x02 ∷
+        0x68 ∷ 0x69 ∷ []
 unfolding plain func_type_text entry_text data_text unsigned_text signed_text out-Instr denote.Hole.Carrier.out
 a_count_where_a_body_has_memory_init = simp (fold_out-Instr (List ℕ) instr_step, fold_out-Instr Bool (any_pass_step names_data)) refl
 
@@ -183,12 +186,14 @@ operations_on_one_number : map un_code (un.I32Eqz ∷ un.I64Eqz ∷ un.I32Clz �
 unfolding un_code
 operations_on_one_number = refl
 
-operations_on_two_numbers_of_32_bits : map bin_code (bin.I32Eq ∷ bin.I32Ne ∷ bin.I32LtS ∷ bin.I32LtU ∷ bin.I32GtS ∷ bin.I32GtU ∷ bin.I32LeS ∷ bin.I32LeU ∷ bin.I32GeS ∷ bin.I32GeU ∷ bin.I32Add ∷ bin.I32Sub ∷ bin.I32Mul ∷ bin.I32DivS ∷ bin.I32DivU ∷ bin.I32RemS ∷ bin.I32RemU ∷ bin.I32And ∷ bin.I32Or ∷ bin.I32Xor ∷ bin.I32Shl ∷ bin.I32ShrS ∷ bin.I32ShrU ∷ bin.I32Rotl ∷ bin.I32Rotr ∷ []) ≡
+operations_on_two_numbers_of_32_bits : map bin_code (bin.I32Eq ∷ bin.I32Ne ∷ bin.I32LtS ∷ bin.I32LtU ∷ bin.I32GtS ∷ bin.I32GtU ∷ bin.I32LeS ∷ bin.I32LeU ∷ bin.I32GeS ∷ bin.I32GeU ∷ bin.I32Add ∷ bin.I32Sub ∷ bin.I32Mul ∷ bin.I32DivS ∷ bin.I32DivU ∷ bin.I32RemS ∷ bin.I32RemU ∷ bin.I32And ∷
+    bin.I32Or ∷ bin.I32Xor ∷ bin.I32Shl ∷ bin.I32ShrS ∷ bin.I32ShrU ∷ bin.I32Rotl ∷ bin.I32Rotr ∷ []) ≡
     0x46 ∷ 0x47 ∷ 0x48 ∷ 0x49 ∷ 0x4A ∷ 0x4B ∷ 0x4C ∷ 0x4D ∷ 0x4E ∷ 0x4F ∷ 0x6A ∷ 0x6B ∷ 0x6C ∷ 0x6D ∷ 0x6E ∷ 0x6F ∷ 0x70 ∷ 0x71 ∷ 0x72 ∷ 0x73 ∷ 0x74 ∷ 0x75 ∷ 0x76 ∷ 0x77 ∷ 0x78 ∷ []
 unfolding bin_code
 operations_on_two_numbers_of_32_bits = refl
 
-operations_on_two_numbers_of_64_bits : map bin_code (bin.I64Eq ∷ bin.I64Ne ∷ bin.I64LtS ∷ bin.I64LtU ∷ bin.I64GtS ∷ bin.I64GtU ∷ bin.I64LeS ∷ bin.I64LeU ∷ bin.I64GeS ∷ bin.I64GeU ∷ bin.I64Add ∷ bin.I64Sub ∷ bin.I64Mul ∷ bin.I64DivS ∷ bin.I64DivU ∷ bin.I64RemS ∷ bin.I64RemU ∷ bin.I64And ∷ bin.I64Or ∷ bin.I64Xor ∷ bin.I64Shl ∷ bin.I64ShrS ∷ bin.I64ShrU ∷ bin.I64Rotl ∷ bin.I64Rotr ∷ []) ≡
+operations_on_two_numbers_of_64_bits : map bin_code (bin.I64Eq ∷ bin.I64Ne ∷ bin.I64LtS ∷ bin.I64LtU ∷ bin.I64GtS ∷ bin.I64GtU ∷ bin.I64LeS ∷ bin.I64LeU ∷ bin.I64GeS ∷ bin.I64GeU ∷ bin.I64Add ∷ bin.I64Sub ∷ bin.I64Mul ∷ bin.I64DivS ∷ bin.I64DivU ∷ bin.I64RemS ∷ bin.I64RemU ∷ bin.I64And ∷
+    bin.I64Or ∷ bin.I64Xor ∷ bin.I64Shl ∷ bin.I64ShrS ∷ bin.I64ShrU ∷ bin.I64Rotl ∷ bin.I64Rotr ∷ []) ≡
     0x51 ∷ 0x52 ∷ 0x53 ∷ 0x54 ∷ 0x55 ∷ 0x56 ∷ 0x57 ∷ 0x58 ∷ 0x59 ∷ 0x5A ∷ 0x7C ∷ 0x7D ∷ 0x7E ∷ 0x7F ∷ 0x80 ∷ 0x81 ∷ 0x82 ∷ 0x83 ∷ 0x84 ∷ 0x85 ∷ 0x86 ∷ 0x87 ∷ 0x88 ∷ 0x89 ∷ 0x8A ∷ []
 unfolding bin_code
 operations_on_two_numbers_of_64_bits = refl

@@ -3,7 +3,8 @@
 use Rattle.std.specs.Prelude.{ℕ, List, [], ◌∷◌, ◌++◌, map, length, Bool, true, false, ◌&&◌, ◌==◌, if◌then◌else◌, Option, Some, None, pos}
 use Rattle.wasm_bytes.specs.Prelude.{u32_text, s32_text, s64_text, sized_text}
 use Rattle.wasm_bytes.specs.Writing.{s33_text}
-use Rattle.wasm_tree_spec.specs.Prelude.{RefType, ValType, I32, I64, Ref, FuncType, Limits, TableType, GlobalType, BlockType, ImportDesc, Import, ExportDesc, Export, ConstExpr, GlobalDef, ElemMode, ElemSeg, DataMode, DataSeg}
+use Rattle.wasm_tree_spec.specs.Prelude.{RefType, ValType, I32, I64, Ref, FuncType, Limits, TableType, GlobalType, BlockType, ImportDesc, Import, ExportDesc, Export, ConstExpr, GlobalDef, ElemMode}
+use Rattle.wasm_tree_spec.specs.Prelude.{ElemSeg, DataMode, DataSeg}
 use Rattle.wasm_tree.specs.declared.types.RefType.TheVariants as ref
 use Rattle.wasm_tree.specs.declared.types.BlockType.TheVariants as block
 use Rattle.wasm_tree.specs.declared.module.ImportDesc.TheVariants as import

@@ -57,7 +57,8 @@ pub number_past : (from count n a : ℕ) → slice_get (numbers from count) n �
 number_past from count n a h = omega (arith, number_is from count n a h)
 
 -- what adding a module comes to: what it defines comes behind what is there, and then its segments are run
-pub added_is : (s : Store) (m : Module) (things : List ExternalValue) (a : Added) → added s m things ≡ Some a → let i = next_inst s m things in (t : Store) × (store_with (const_value s.globals i) m i ≡ Some t) × (record { inst = i; filled = own_segments (const_value s.globals i) m i (joined_stores s t) } ≡ a)
+pub added_is : (s : Store) (m : Module) (things : List ExternalValue) (a : Added) → added s m things ≡ Some a →
+    let i = next_inst s m things in (t : Store) × (store_with (const_value s.globals i) m i ≡ Some t) × (record { inst = i; filled = own_segments (const_value s.globals i) m i (joined_stores s t) } ≡ a)
 added_is s m things a h = grind arith
 
 module _ (related alone : Space → ℕ → Type 0) (never : (k : Space) (a : ℕ) → alone k a → related k a → ⊥) where

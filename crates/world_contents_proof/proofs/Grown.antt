@@ -1,5 +1,6 @@
 -- Two modules, each alone, of which the second has what the first has at the same places, and perhaps more behind it: index spaces, definitions and segments.
-use Rattle.base_lists.proofs.Common.{◌≡◌, ℕ, suc, ◌+◌, ◌-◌, ◌<◌, ◌≤◌, List, [], ◌∷◌, ◌++◌, map, length, Some, true, ◌⊎◌, inl, inr, refl, sym, ap, ap₂, subst, ◌∙◌, arith, slice_get, slice_index, cases_lt, ltb-true, slice_get_there, length-numbers, numbers_at, numbers_index, append_left, append_right, append_at_left, map_at, length-map, get_rel, opt_at}
+use Rattle.base_lists.proofs.Common.{◌≡◌, ℕ, suc, ◌+◌, ◌-◌, ◌<◌, ◌≤◌, List, [], ◌∷◌, ◌++◌, map, length, Some, true, ◌⊎◌, inl, inr, refl, sym, ap, ap₂, subst, ◌∙◌, arith, slice_get, slice_index, cases_lt, ltb-true, slice_get_there, length-numbers, numbers_at, numbers_index, append_left, append_right}
+use Rattle.base_lists.proofs.Common.{append_at_left, map_at, length-map, get_rel, opt_at}
 use Rattle.std.proofs.Common.{length-append}
 use Rattle.wasm_meaning.specs.Prelude.{numbers, PlacedSegment, segments_in, own_count, defined_count, Inst, Environment}
 use Rattle.index_remap.specs.Prelude.{OptRel, some, ListRel, has}

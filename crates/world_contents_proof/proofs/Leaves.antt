@@ -4,7 +4,8 @@ use Rattle.base_lists.specs.Options.{◌>>=◌}
 use Rattle.wasm_tree_spec.specs.Prelude.{ConstExpr, ElemMode, ElemSeg, DataMode, DataSeg, Module}
 use Rattle.wasm_tree.specs.declared.module.ElemMode.TheVariants as elem
 use Rattle.wasm_tree.specs.declared.module.DataMode.TheVariants as data'
-use Rattle.wasm_meaning.specs.Prelude.{Text, Entity, Val, Inst, Elem, Store, ref_of, Begun, Filled, PlacedSegment, address_in, all_there, const_value, value_of, elem_with, store_with, part_store, joined_stores, numbers, segments_in, run_elem_with, run_elem, run_data_with, run_data, and_then, one_by_one, segments, insts_from, stores_from, begun, own_store, alone, Added, added, next_inst, LoaderWorld, store_under, supplied, primary_added, begun_under, Environment, ExternalValue}
+use Rattle.wasm_meaning.specs.Prelude.{Text, Entity, Val, Inst, Elem, Store, ref_of, Begun, Filled, PlacedSegment, address_in, all_there, const_value, value_of, elem_with, store_with, part_store, joined_stores, numbers, segments_in, run_elem_with, run_elem, run_data_with, run_data, and_then}
+use Rattle.wasm_meaning.specs.Prelude.{one_by_one, segments, insts_from, stores_from, begun, own_store, alone, Added, added, next_inst, LoaderWorld, store_under, supplied, primary_added, begun_under, Environment, ExternalValue}
 use Rattle.world_contents_proof.specs.Copies.{IsOf, Kind, left, memories, run, runs, tables}
 use Rattle.world_contents_proof.specs.Copies.{OwnSegmentsLeave, OwnSegmentsRunAsCopies, SegmentsAloneRunAsCopies}
 use Rattle.world_contents_proof.specs.Leaves.{Copy, all_over, elem_copy, elem_copies, data_copy, data_copies, Stands, elem_left, data_left, Leaves, ModulesAloneLeave, WorldsOfOneModuleLeave}
@@ -21,7 +22,8 @@ turns_are k i copy g one [] s n = refl
 turns_are k i copy g one (x ∷ xs) s n = rw (one s n x, turns_are k i copy g one xs)
 
 -- all segments of a module, each run in turn, are run as the copies of these
-pub copies_in_turn : (value : ConstExpr → Option Val) (m : Module) (i : Inst) (g : Store → PlacedSegment ElemSeg → Filled) (h : Store → PlacedSegment DataSeg → Filled) → ((s : Store) (n : ℕ) (e : ElemSeg) → g s (record { part = 0; inst = i; address = n; segment = e }) ≡ run tables s n (elem_copy value i e e.mode)) →
+pub copies_in_turn : (value : ConstExpr → Option Val) (m : Module) (i : Inst) (g : Store → PlacedSegment ElemSeg → Filled) (h : Store → PlacedSegment DataSeg → Filled) →
+    ((s : Store) (n : ℕ) (e : ElemSeg) → g s (record { part = 0; inst = i; address = n; segment = e }) ≡ run tables s n (elem_copy value i e e.mode)) →
     ((s : Store) (n : ℕ) (d : DataSeg) → h s (record { part = 0; inst = i; address = n; segment = d }) ≡ run memories s n (data_copy value i d d.mode)) → (n k : ℕ) → i.elems ≡ numbers n (length m.elems) → i.datas ≡ numbers k (length m.datas) →
     (s : Store) → and_then (one_by_one g s (segments_in 0 i i.elems m.elems)) (λ s. one_by_one h s (segments_in 0 i i.datas m.datas)) ≡ and_then (runs tables s n (elem_copies value i m.elems)) (λ s. runs memories s k (data_copies value i m.datas))
 copies_in_turn _ m i g h elem_runs data_runs n k elems datas s = simp (elems, datas, turns_are tables i _ g elem_runs, turns_are memories i _ h data_runs)

@@ -17,11 +17,13 @@ pub record WritesAlone (alone : Space → ℕ → Type 0) (m : Module) (i : Inst
 -- listed, and whether a segment traps.
 abbrev pub AddedToTheSecondStayRelated : Type 0
 AddedToTheSecondStayRelated =
-    (of named : Space → ℕ → ℕ → Bool) (l : List ℕ) (s z : Store) (m : Module) (things : List ExternalValue) (a : Added) → StoreRel (passed of named l) s z → added z m things ≡ Some a → WritesAlone (HasNoPartner (passed of named l)) m a.inst →
+    (of named : Space → ℕ → ℕ → Bool) (l : List ℕ) (s z : Store) (m : Module) (things : List ExternalValue) (a : Added) → StoreRel (passed of named l) s z → added z m things ≡ Some a →
+    WritesAlone (HasNoPartner (passed of named l)) m a.inst →
     StoreRel (passed of named l) s a.filled.store
 
 -- The same when it is added to the first.
 abbrev pub AddedToTheFirstStayRelated : Type 0
 AddedToTheFirstStayRelated =
-    (of named : Space → ℕ → ℕ → Bool) (l : List ℕ) (s z : Store) (m : Module) (things : List ExternalValue) (a : Added) → StoreRel (passed of named l) s z → added s m things ≡ Some a → WritesAlone (HasNoPartner (turned (passed of named l))) m a.inst →
+    (of named : Space → ℕ → ℕ → Bool) (l : List ℕ) (s z : Store) (m : Module) (things : List ExternalValue) (a : Added) → StoreRel (passed of named l) s z → added s m things ≡ Some a →
+    WritesAlone (HasNoPartner (turned (passed of named l))) m a.inst →
     StoreRel (passed of named l) a.filled.store z

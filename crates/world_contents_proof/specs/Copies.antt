@@ -3,7 +3,8 @@
 use Rattle.std.specs.Prelude.{◌≡◌, ℕ, suc, ◌+◌, false, true, List, [], ◌∷◌, length, Option, Some, None, refl, slice_get, slice_set}
 use Rattle.base_lists.specs.Options.{◌>>=◌}
 use Rattle.wasm_tree_spec.specs.Prelude.{ConstExpr, Module}
-use Rattle.wasm_meaning.specs.Prelude.{overwrite, numbers, RefVal, Val, Inst, Table, Memory, Elem, Data, Store, SetTable, SetMemory, DropElem, DropData, changed, no_items, no_bytes, Environment, Filled, or_trapped, and_then, value_of, copy_slots, copy_bytes, store_with, joined_stores, segments, own_segments}
+use Rattle.wasm_meaning.specs.Prelude.{overwrite, numbers, RefVal, Val, Inst, Table, Memory, Elem, Data, Store, SetTable, SetMemory, DropElem, DropData, changed, no_items, no_bytes, Environment}
+use Rattle.wasm_meaning.specs.Prelude.{Filled, or_trapped, and_then, value_of, copy_slots, copy_bytes, store_with, joined_stores, segments, own_segments}
 use Rattle.world_simulation.specs.Prelude.{one}
 use Rattle.world_contents_proof.specs.Leaves.{Copy, nothing, contents, elem_copies, data_copies, Leaves}
 
@@ -114,16 +115,19 @@ copies_run value m i n k s = and_then (runs tables s n (elem_copies value i m.el
 
 -- To copy the active segments of a module is to run their copies in order.
 abbrev pub OwnSegmentsRunAsCopies : Type 0
-OwnSegmentsRunAsCopies = (value : ConstExpr → Option Val) (m : Module) (i : Inst) (n k : ℕ) → i.elems ≡ numbers n (length m.elems) → i.datas ≡ numbers k (length m.datas) → (s : Store) → own_segments value m i s ≡ copies_run value m i n k s
+OwnSegmentsRunAsCopies = (value : ConstExpr → Option Val) (m : Module) (i : Inst) (n k : ℕ) → i.elems ≡ numbers n (length m.elems) → i.datas ≡ numbers k (length m.datas) → (s : Store) →
+    own_segments value m i s ≡ copies_run value m i n k s
 
 -- The same for the world of a module alone.
 abbrev pub SegmentsAloneRunAsCopies : Type 0
 SegmentsAloneRunAsCopies =
-    (env : Environment) (m : Module) (i : Inst) (n k : ℕ) → i.elems ≡ numbers n (length m.elems) → i.datas ≡ numbers k (length m.datas) → (s : Store) → segments env (one m) (i ∷ []) s ≡ copies_run (value_of env (one m) (i ∷ []) 0) m i n k s
+    (env : Environment) (m : Module) (i : Inst) (n k : ℕ) → i.elems ≡ numbers n (length m.elems) → i.datas ≡ numbers k (length m.datas) → (s : Store) →
+    segments env (one m) (i ∷ []) s ≡ copies_run (value_of env (one m) (i ∷ []) 0) m i n k s
 
 -- If no segment traps, the store has after it what the module leaves, whatever the values of the
 -- constant expressions are.
 abbrev pub OwnSegmentsLeave : Type 0
 OwnSegmentsLeave =
-    (value : ConstExpr → Option Val) (m : Module) (i : Inst) (before t : Store) → store_with value m i ≡ Some t → i.elems ≡ numbers (length before.elems) (length m.elems) → i.datas ≡ numbers (length before.datas) (length m.datas) →
+    (value : ConstExpr → Option Val) (m : Module) (i : Inst) (before t : Store) → store_with value m i ≡ Some t → i.elems ≡ numbers (length before.elems) (length m.elems) →
+    i.datas ≡ numbers (length before.datas) (length m.datas) →
     (own_segments value m i (joined_stores before t)).trapped ≡ false → Leaves value m i before (own_segments value m i (joined_stores before t)).store

@@ -7,7 +7,9 @@ use Rattle.wasm_tree_spec.specs.Prelude.{TableType, Limits, ConstExpr, GlobalDef
 use Rattle.wasm_tree.specs.declared.module.Func as tree
 use Rattle.wasm_tree.specs.declared.module.ElemMode.TheVariants as elem
 use Rattle.wasm_tree.specs.declared.module.DataMode.TheVariants as data'
-use Rattle.wasm_meaning.specs.Prelude.{Text, Entity, overwrite, RefVal, Val, Inst, Func, Table, Memory, Global, Elem, Data, Store, ref_of, no_items, no_bytes, Environment, ExternalValue, Begun, all_there, const_value, value_of, new_func, global_with, elem_with, insts_from, own_store, alone, instantiate, Added, added, LoaderWorld, store_under, primary_added, begun_under}
+use Rattle.wasm_meaning.specs.Prelude.{Text, Entity, overwrite, RefVal, Val, Inst, Func, Table, Memory, Global, Elem, Data, Store, ref_of, no_items, no_bytes, Environment, ExternalValue, Begun}
+use Rattle.wasm_meaning.specs.Prelude.{all_there, const_value, value_of, new_func, global_with, elem_with, insts_from, own_store, alone, instantiate, Added, added, LoaderWorld, store_under}
+use Rattle.wasm_meaning.specs.Prelude.{primary_added, begun_under}
 use Rattle.world_simulation.specs.Prelude.{one, new_table, new_memory, offset_in}
 
 -- ---- copies ----
@@ -75,8 +77,10 @@ data_left d (data'.Active x offset) = no_bytes
 pub record Leaves (value : ConstExpr → Option Val) (m : Module) (i : Inst) (before after : Store) : Type 0 where
   -- what the module defines
   pub funcs : (n : ℕ) (f : tree.Func) → slice_get m.funcs n ≡ Some f → Stands after.funcs (length before.funcs + n) (new_func i f)
-  pub tables : (n : ℕ) (t : TableType) → slice_get m.tables n ≡ Some t → Stands after.tables (length before.tables + n) (table_left (new_table t) (all_over (length before.tables + n) (elem_copies value i m.elems) (new_table t).slots))
-  pub mems : (n : ℕ) (l : Limits) → slice_get m.mems n ≡ Some l → Stands after.mems (length before.mems + n) (memory_left (new_memory l) (all_over (length before.mems + n) (data_copies value i m.datas) (new_memory l).bytes))
+  pub tables : (n : ℕ) (t : TableType) → slice_get m.tables n ≡ Some t →
+      Stands after.tables (length before.tables + n) (table_left (new_table t) (all_over (length before.tables + n) (elem_copies value i m.elems) (new_table t).slots))
+  pub mems : (n : ℕ) (l : Limits) → slice_get m.mems n ≡ Some l →
+      Stands after.mems (length before.mems + n) (memory_left (new_memory l) (all_over (length before.mems + n) (data_copies value i m.datas) (new_memory l).bytes))
   pub globals : (n : ℕ) (g : GlobalDef) → slice_get m.globals n ≡ Some g → Stands after.globals (length before.globals + n) (global_with value g)
   pub elems : (n : ℕ) (e : ElemSeg) → slice_get m.elems n ≡ Some e → Stands after.elems (length before.elems + n) (elem_left value e e.mode)
   pub datas : (n : ℕ) (d : DataSeg) → slice_get m.datas n ≡ Some d → slice_get after.datas (length before.datas + n) ≡ Some (data_left d d.mode)

@@ -5,7 +5,9 @@ use Rattle.base_lists.proofs.Related.{each_then}
 use Rattle.wasm_tree_spec.specs.Prelude.{ConstExpr, ElemMode, ElemSeg, DataMode, DataSeg, Module}
 use Rattle.wasm_tree.specs.declared.module.ElemMode.TheVariants as elem
 use Rattle.wasm_tree.specs.declared.module.DataMode.TheVariants as data'
-use Rattle.wasm_meaning.specs.Prelude.{Gives, Traps, IllTyped, overwrite, RefVal, Val, Inst, Table, Memory, Store, Entry, Ran, CallsOwn, WaitsGrowth, CallsPlaceholder, EndsCall, SetTable, SetMemory, DropElem, DropData, changed, Filled, PlacedSegment, joined_stores, value_of, placed_elems, placed_datas, segments_in, or_trapped, copy_slots, run_elem_with, copy_bytes, run_data_with, and_then, one_by_one, Added, added, Run, Event, Transition, Steps, Makes, made, transition, run_after, LoaderWorld, LoaderRun, secondary_of, store_loaded, loader_made, StepsWriteWhatTheyTouch, next_inst, const_value, own_segments, ExternalValue, store_with}
+use Rattle.wasm_meaning.specs.Prelude.{Gives, Traps, IllTyped, overwrite, RefVal, Val, Inst, Table, Memory, Store, Entry, Ran, CallsOwn, WaitsGrowth, CallsPlaceholder, EndsCall, SetTable, SetMemory, DropElem, DropData, changed, Filled, PlacedSegment, joined_stores, value_of, placed_elems}
+use Rattle.wasm_meaning.specs.Prelude.{placed_datas, segments_in, or_trapped, copy_slots, run_elem_with, copy_bytes, run_data_with, and_then, one_by_one, Added, added, Run, Event, Transition, Steps, Makes, made, transition, run_after, LoaderWorld, LoaderRun, secondary_of, store_loaded, loader_made}
+use Rattle.wasm_meaning.specs.Prelude.{StepsWriteWhatTheyTouch, next_inst, const_value, own_segments, ExternalValue, store_with}
 use Rattle.wasm_meaning.specs.Loader.{loader_with, secondary_added, call_answered, secondary_called, placeholder_called}
 use Rattle.index_remap.specs.Prelude.{IsBegun}
 use Rattle.world_simulation.specs.Prelude.{offset_in}
@@ -123,7 +125,8 @@ loaded_stays w i m false s = by (secondary_added w i m s) refl
 
 module _ (writes : StepsWriteWhatTheyTouch) (w : LoaderWorld) (q : LoaderRun) (begun : IsBegun q.run.phase) where
   -- what the placeholder's call comes to
-  called_kept : (r : Run) (slot : ℕ) (vs : List Val) (s : Store) (es : List Entry) → IsBegun r.phase → StaysIn q.run.store s → (o : Option (LoaderRun × Option Event)) → placeholder_called w q r slot vs s es ≡ o → LoaderKept q (unwrap_or o (loader_with q (run_after (record r { store = s; entries = es }) Traps)))
+  called_kept : (r : Run) (slot : ℕ) (vs : List Val) (s : Store) (es : List Entry) → IsBegun r.phase → StaysIn q.run.store s → (o : Option (LoaderRun × Option Event)) → placeholder_called w q r slot vs s es ≡ o →
+      LoaderKept q (unwrap_or o (loader_with q (run_after (record r { store = s; entries = es }) Traps)))
   called_kept r slot vs s es b h None e =
       let k = after_kept (record r { store = s; entries = es }) Traps stopped in
       record { store = still_in q.run.store s _ h (stays_in s _ k.store); inst = refl; begun = k.begun b }

@@ -1,6 +1,10 @@
 -- Each step of a run that was instantiated extends its store.
 use Rattle.base_lists.proofs.Common.{◌≡◌, ℕ, List, [], ◌∷◌, Option, Some, None, Bool, true, false, cond, option_and_then, slice_get, refl, sym, subst, ◌∙◌, arith, nat_eq, length-append, with_there, either_all, overwritten_length}
-use Rattle.wasm_meaning.specs.Prelude.{Outcome, Gives, Traps, IllTyped, bind, overwrite, copies, Val, RefVal, Ref, Table, Memory, Global, Func, Code, Own, Placeholder, Store, Level, Frame, Entry, Running, Caller, Host, Starter, Mark, Opening, Waiting, Ended, Growing, Growth, GrowMemory, GrowTable, Change, SetGlobal, Act, Goes, Calls, AsksGrow, Ends, Next, Ran, CallsOwn, WaitsGrowth, CallsPlaceholder, EndsCall, Inst, pop_typed, null_of, memory_may_grow, table_may_grow, type_at, func_ref, changed, give_levels, give, enter, enter_at, act, perform, step, to_mark, Shown, ExternalValue, FuncAt, TableAt, MemoryAt, GlobalAt, func_of, received, received_ref, received_all, Filled, LoaderWorld, placeholders_of, transition, Move, Call, Invoke, Take, Answer, Refuse, Grant, Deny, Get, Size, Set, Extend, Phase, Fresh, Pending, Opened, Closed, Run, Transition, Steps, Makes, made, viewed_at, place_at, trapped_to, run_after, called, is_mark, delivered, answered, refused, grown_table, granted, decided, shows, got, size_of, does, byte_of, set, extended, moved, at_entries, or_bad, or_closed, next_move, nothing_in, open_next, is_taken_closed, closed_move, in_phase, transition_at, StepsWriteWhatTheyTouch}
+use Rattle.wasm_meaning.specs.Prelude.{Outcome, Gives, Traps, IllTyped, bind, overwrite, copies, Val, RefVal, Ref, Table, Memory, Global, Func, Code, Own, Placeholder, Store, Level, Frame, Entry, Running, Caller, Host, Starter, Mark, Opening, Waiting, Ended, Growing, Growth, GrowMemory, GrowTable}
+use Rattle.wasm_meaning.specs.Prelude.{Change, SetGlobal, Act, Goes, Calls, AsksGrow, Ends, Next, Ran, CallsOwn, WaitsGrowth, CallsPlaceholder, EndsCall, Inst, pop_typed, null_of, memory_may_grow, table_may_grow, type_at, func_ref, changed, give_levels, give, enter, enter_at, act, perform, step}
+use Rattle.wasm_meaning.specs.Prelude.{to_mark, Shown, ExternalValue, FuncAt, TableAt, MemoryAt, GlobalAt, func_of, received, received_ref, received_all, Filled, LoaderWorld, placeholders_of, transition, Move, Call, Invoke, Take, Answer, Refuse, Grant, Deny, Get, Size, Set, Extend, Phase, Fresh}
+use Rattle.wasm_meaning.specs.Prelude.{Pending, Opened, Closed, Run, Transition, Steps, Makes, made, viewed_at, place_at, trapped_to, run_after, called, is_mark, delivered, answered, refused, grown_table, granted, decided, shows, got, size_of, does, byte_of, set, extended, moved, at_entries, or_bad}
+use Rattle.wasm_meaning.specs.Prelude.{or_closed, next_move, nothing_in, open_next, is_taken_closed, closed_move, in_phase, transition_at, StepsWriteWhatTheyTouch}
 use Rattle.wasm_tree_spec.specs.Prelude.{same_func_type}
 use Rattle.wasm_meaning.specs.Loader.{call_answered}
 use Rattle.wasm_meaning.specs.Run.{grown_memory, with_change}
@@ -162,7 +166,8 @@ module _ (r : Run) where
   set_all : (x : ExternalValue) (n : ℕ) (v : Shown) → All r (set r x n v)
   set_all (FuncAt a) n v = absent
   set_all (TableAt a) n v =
-      with_there (slice_get r.store.tables a) _ (λ t e. with_there (received_ref r.owned r.shown t.ty v) _ (λ w _. with_there (overwrite t.slots n (w ∷ [])) _ (λ slots is. let l = overwritten_length t.slots n (w ∷ []) slots is in does_all _ (table e (record { type = refl; most = refl; size = omega (arith, l) })))))
+      with_there (slice_get r.store.tables a) _ (λ t e. with_there (received_ref r.owned r.shown t.ty v) _
+          (λ w _. with_there (overwrite t.slots n (w ∷ [])) _ (λ slots is. let l = overwritten_length t.slots n (w ∷ []) slots is in does_all _ (table e (record { type = refl; most = refl; size = omega (arith, l) })))))
   set_all (MemoryAt a) n v =
       with_there (slice_get r.store.mems a) _ (λ m e. with_there (byte_of v) _ (λ b _. with_there (overwrite m.bytes n (b ∷ [])) _ (λ bytes _. does_all _ (memory e (record { most = refl; size = omega arith })))))
   set_all (GlobalAt a) n v = with_there (slice_get r.store.globals a) _ (λ g e. either_all (nat_eq n 0) (mutable g e g.ty.mutable refl) absent)

@@ -1,10 +1,12 @@
 -- Each index of a module that is added names what the module says, and so it does in each store that extends that one.
-use Rattle.base_lists.proofs.Common.{◌≡◌, ◌∙◌, refl, sym, ap, subst, ℕ, zero, suc, ◌+◌, List, [], ◌∷◌, ◌++◌, map, length, Option, Some, None, Bool, true, false, ◌&&◌, ⊎_elim, arith, slice_get, true≢false, nat_le, cons_option, le-leb, and_parts, and_from, same_Some, cond_is, numbers_at, and_then_is, all_there_at, unwrap_or_false_is, append_at_left, append_from, append_right, map_at, map_from, slice_get_within, length-map, copies_length, each_same_self}
+use Rattle.base_lists.proofs.Common.{◌≡◌, ◌∙◌, refl, sym, ap, subst, ℕ, zero, suc, ◌+◌, List, [], ◌∷◌, ◌++◌, map, length, Option, Some, None, Bool, true, false, ◌&&◌, ⊎_elim, arith, slice_get, true≢false, nat_le, cons_option, le-leb, and_parts, and_from, same_Some, cond_is, numbers_at, and_then_is}
+use Rattle.base_lists.proofs.Common.{all_there_at, unwrap_or_false_is, append_at_left, append_from, append_right, map_at, map_from, slice_get_within, length-map, copies_length, each_same_self}
 use Rattle.std.proofs.Common.{filter_map}
 use Rattle.base_lists.specs.Options.{◌>>=◌}
 use Rattle.wasm_tree_spec.specs.Prelude.{same_func_type, same_ref, same_type, Functions, Tables, Memories, Globals, FuncType, Limits, TableType, GlobalType, Import, ImportDesc, Module, func_of, table_of, memory_of, global_of, imported_funcs, imported_tables, imported_memories, imported_globals}
 use Rattle.wasm_tree.specs.declared.module.ImportDesc.TheVariants as im
-use Rattle.wasm_meaning.specs.Prelude.{Inst, Func, Table, Memory, Global, Store, null_of, type_of_func, ExternalValue, FuncAt, TableAt, MemoryAt, GlobalAt, address_of, numbers, new_func, global_with, const_value, import_type, joined_stores, same_bool, meets_most, meets, is_match, Added, addresses_of, next_inst, all_match, added_as, store_with}
+use Rattle.wasm_meaning.specs.Prelude.{Inst, Func, Table, Memory, Global, Store, null_of, type_of_func, ExternalValue, FuncAt, TableAt, MemoryAt, GlobalAt, address_of, numbers, new_func, global_with, const_value, import_type, joined_stores, same_bool, meets_most, meets, is_match, Added}
+use Rattle.wasm_meaning.specs.Prelude.{addresses_of, next_inst, all_match, added_as, store_with}
 use Rattle.world_simulation.specs.Prelude.{new_table, new_memory, AddsWith}
 use Rattle.world_extension_proof.specs.Extends.{StaysIn}
 use Rattle.world_extension_proof.specs.Typed.{Offers, IsTyped, AddedModulesAreTyped, InstancesStayTyped}
@@ -193,7 +195,8 @@ module _ (s : Store) (m : Module) (things : List ExternalValue) (matched : all_m
     funcs = each_offers im.Func FuncAt (imported_funcs m.imports) (map (λ f. f.ty) m.funcs) (addresses_of Functions things) (length s.funcs) (things_alike s m _ func_of (address_of Functions) (func_kinds s m) m.imports things matched) new_function (length m.funcs) (length-map m.funcs (λ f. f.ty));
     tables = each_offers im.Table TableAt (imported_tables m.imports) m.tables (addresses_of Tables things) (length s.tables) (things_alike s m _ table_of (address_of Tables) (table_kinds s m) m.imports things matched) new_table_is (length m.tables) refl;
     mems = each_offers im.Memory MemoryAt (imported_memories m.imports) m.mems (addresses_of Memories things) (length s.mems) (things_alike s m _ memory_of (address_of Memories) (memory_kinds s m) m.imports things matched) new_memory_is (length m.mems) refl;
-    globals = each_offers im.Global GlobalAt (imported_globals m.imports) (map (λ g. g.ty) m.globals) (addresses_of Globals things) (length s.globals) (things_alike s m _ global_of (address_of Globals) (global_kinds s m) m.imports things matched) new_global_is (length m.globals) (length-map m.globals (λ g. g.ty));
+    globals = each_offers im.Global GlobalAt (imported_globals m.imports) (map (λ g. g.ty) m.globals) (addresses_of Globals things) (length s.globals) (things_alike s m _ global_of (address_of Globals) (global_kinds s m) m.imports things matched) new_global_is (length m.globals)
+        (length-map m.globals (λ g. g.ty));
   }
 
 pub added_typed : AddedModulesAreTyped

@@ -3,7 +3,8 @@
 use Rattle.std.specs.Prelude.{◌≡◌, ℕ, ◌≤◌, false, List, length, Option, Some, slice_get}
 use Rattle.base_lists.specs.Related.{EachRelated}
 use Rattle.wasm_tree_spec.specs.Prelude.{ConstExpr, Module}
-use Rattle.wasm_meaning.specs.Prelude.{Gives, Val, Inst, Func, Table, Memory, Global, Store, Entry, CallsPlaceholder, Part, Environment, ExternalValue, segments, Added, added, own_segments, Run, Event, Out, Steps, transition, tick, LoaderWorld, LoaderRun, tick_loader}
+use Rattle.wasm_meaning.specs.Prelude.{Gives, Val, Inst, Func, Table, Memory, Global, Store, Entry, CallsPlaceholder, Part, Environment, ExternalValue, segments, Added, added, own_segments, Run}
+use Rattle.wasm_meaning.specs.Prelude.{Event, Out, Steps, transition, tick, LoaderWorld, LoaderRun, tick_loader}
 use Rattle.index_remap.specs.Prelude.{IsBegun}
 
 -- ---- stores ----

@@ -4,7 +4,9 @@ use Rattle.base_lists.proofs.Filtered.{at_places, chosen_twice}
 use Rattle.base_lists.specs.Options.{◌>>=◌}
 use Rattle.wasm_tree_spec.specs.Prelude.{Space, Functions, Tables, Memories, Globals, ConstExpr, Import, ImportDesc, ExportDesc, Module, space_of_import, same_space}
 use Rattle.wasm_tree.specs.declared.module.ImportDesc.TheVariants as im
-use Rattle.wasm_meaning.specs.Prelude.{Text, Val, Inst, Store, Site, PlacedSegment, has_kind, sites, sites_in, Environment, ExternalValue, owned_of, own_globals, all_of, Filled, all_there, address_of, address_in, own_count, defined_count, numbers, const_value, value_of, joined_stores, own_store, is_match, is_matched, run_elem_with, run_data_with, and_then, one_by_one, segments, space, instantiate, all_match, addresses_of, added_as, own_segments, next_inst, LoaderWorld, placeholders_of, primary_added, store_under, supplied, begun_of, start_in, imported_external_value}
+use Rattle.wasm_meaning.specs.Prelude.{Text, Val, Inst, Store, Site, PlacedSegment, has_kind, sites, sites_in, Environment, ExternalValue, owned_of, own_globals, all_of, Filled, all_there, address_of, address_in, own_count, defined_count, numbers, const_value, value_of, joined_stores, own_store}
+use Rattle.wasm_meaning.specs.Prelude.{is_match, is_matched, run_elem_with, run_data_with, and_then, one_by_one, segments, space, instantiate, all_match, addresses_of, added_as, own_segments, next_inst, LoaderWorld, placeholders_of, primary_added, store_under, supplied, begun_of, start_in}
+use Rattle.wasm_meaning.specs.Prelude.{imported_external_value}
 use Rattle.wasm_meaning.specs.World as world
 use Rattle.wasm_meaning.specs.Sequential.{own_external_value}
 use Rattle.world_simulation.specs.Prelude.{one, site, import_address}

@@ -1,10 +1,12 @@
 -- A loader begins as one whose primary module has functions of its own in place of the placeholders.
 use Rattle.world_simulation.specs.Prelude.{external_value_in}
-use Rattle.base_lists.proofs.Common.{◌≡◌, ℕ, suc, ◌+◌, List, [], ◌∷◌, ◌++◌, map, length, Option, Some, None, true, cond, refl, ap, arith, append_assoc, append-nil, slice_get, length-append, length-map, add-zero, same_Some, filter_map-append, numbers_append, append_right, opt_self, add_next, each_same_self}
+use Rattle.base_lists.proofs.Common.{◌≡◌, ℕ, suc, ◌+◌, List, [], ◌∷◌, ◌++◌, map, length, Option, Some, None, true, cond, refl, ap, arith, append_assoc, append-nil, slice_get, length-append, length-map, add-zero, same_Some, filter_map-append, numbers_append, append_right, opt_self, add_next}
+use Rattle.base_lists.proofs.Common.{each_same_self}
 use Rattle.base_lists.specs.Every.{Every}
 use Rattle.base_lists.specs.Options.{◌>>=◌}
 use Rattle.wasm_tree_spec.specs.Prelude.{Space, same_space, same_type, same_func_type, Functions, FuncType, Unreachable, ConstExpr, Import, Module}
-use Rattle.wasm_meaning.specs.Prelude.{Pair, Val, Inst, Func, Code, Store, declared, Environment, ExternalValue, FuncAt, owned_of, own_funcs, own_globals, all_there, own_count, numbers, const_value, new_func, store_with, joined_stores, own_store, is_match, Added, added, added_as, addresses_of, all_match, next_inst, own_segments, LoaderWorld, placeholders_of, placeholders_from, store_under, slot_of, supplied}
+use Rattle.wasm_meaning.specs.Prelude.{Pair, Val, Inst, Func, Code, Store, declared, Environment, ExternalValue, FuncAt, owned_of, own_funcs, own_globals, all_there, own_count, numbers, const_value, new_func, store_with, joined_stores, own_store, is_match, Added, added, added_as, addresses_of}
+use Rattle.wasm_meaning.specs.Prelude.{all_match, next_inst, own_segments, LoaderWorld, placeholders_of, placeholders_from, store_under, slot_of, supplied}
 use Rattle.wasm_meaning.specs.Sequential.{own_external_value}
 use Rattle.index_remap.specs.Prelude.{StoreRel}
 use Rattle.world_loader_proof.specs.Stubbed.{ArePlaceholders, ImportsThemLast, stub, stubbed, placeholders_in, LoadersAddAsStubbed, LoadersBeginAsStubbed}

@@ -13,4 +13,5 @@ LoadersBeginAsTheirPrimary = (env : Environment) (w : LoaderWorld) → placehold
 
 -- Its instance is the one of that world.
 abbrev pub LoadersHaveTheirPrimarysInstance : Type 0
-LoadersHaveTheirPrimarysInstance = (env : Environment) (w : LoaderWorld) → placeholders_of w ≡ [] → (a : Added) → primary_added env w ≡ Some a → insts_from env (one w.primary) 0 (one w.primary) ≡ Some (a.inst ∷ [])
+LoadersHaveTheirPrimarysInstance = (env : Environment) (w : LoaderWorld) → placeholders_of w ≡ [] → (a : Added) → primary_added env w ≡ Some a → insts_from env (one w.primary) 0 (one w.primary) ≡
+    Some (a.inst ∷ [])

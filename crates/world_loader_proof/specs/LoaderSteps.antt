@@ -3,7 +3,8 @@
 use Rattle.std.specs.Prelude.{◌≡◌, ℕ, ◌<◌, Bool, false, List, Some, slice_get}
 use Rattle.wasm_tree_spec.specs.Prelude.{FuncType}
 use Rattle.base_simulation.specs.Machines.{events_of, state_after}
-use Rattle.wasm_meaning.specs.Prelude.{Gives, Pair, FuncRef, Val, Inst, Table, Store, Entry, CallsPlaceholder, type_at, enter_at, Run, Out, Steps, transition, run_after, tick, Secondary, LoaderWorld, LoaderRun, placeholders_of, secondary_of, store_loaded, tick_loader}
+use Rattle.wasm_meaning.specs.Prelude.{Gives, Pair, FuncRef, Val, Inst, Table, Store, Entry, CallsPlaceholder, type_at, enter_at, Run, Out, Steps, transition, run_after, tick, Secondary, LoaderWorld}
+use Rattle.wasm_meaning.specs.Prelude.{LoaderRun, placeholders_of, secondary_of, store_loaded, tick_loader}
 use Rattle.wasm_meaning.specs.Loader.{with_loaded}
 use Rattle.index_remap.specs.Prelude.{calls_placeholder}
 
@@ -53,5 +54,6 @@ answered_out a r vs es = run_after (record r { store = a.after; entries = es }) 
 -- a step that calls a placeholder continues in the function that is then in its slot
 abbrev pub PlaceholdersAreAnswered : Type 0
 PlaceholdersAreAnswered =
-    (w : LoaderWorld) (q : LoaderRun) (r : Run) (slot : ℕ) (vs : List Val) (s : Store) (es : List Entry) → transition q.run ≡ Steps r (Gives (CallsPlaceholder slot vs s es)) → (a : IsAnswered w q slot s) →
+    (w : LoaderWorld) (q : LoaderRun) (r : Run) (slot : ℕ) (vs : List Val) (s : Store) (es : List Entry) → transition q.run ≡ Steps r (Gives (CallsPlaceholder slot vs s es)) →
+    (a : IsAnswered w q slot s) →
     tick_loader w q ≡ (with_loaded q a.secondary (answered_out a r vs es).0, (answered_out a r vs es).1)

@@ -2,7 +2,8 @@
 use Rattle.base_lists.proofs.Common.{◌≡◌, ◌∙◌, refl, sym, ap, subst, ℕ, suc, ◌+◌, ◌-◌, ◌<◌, ◌≤◌, List, [], ◌∷◌, ◌++◌, map, length, Some, None, false, inl, inr, arith, drop, slice_get, length-append, append_left, append_right, append_at_left, append_from, map_from, each_rel, append_rel, self_rel}
 use Rattle.base_lists.specs.Related.{EachRelated}
 use Rattle.wasm_tree_spec.specs.Prelude.{Module}
-use Rattle.wasm_meaning.specs.Prelude.{Text, Inst, Func, Own, Store, Opening, Part, module_at, Environment, Offer, ExternalValue, flat, owned_of, World, own_store, const_value, joined_stores, all_there, starts_of, seen_as, segments, Pending, Move, Run, StartDependsOnlyOnItsFrames, SequentialRun, view_over, own_segments, goes_on, tick_sequential, HasNoActive}
+use Rattle.wasm_meaning.specs.Prelude.{Text, Inst, Func, Own, Store, Opening, Part, module_at, Environment, Offer, ExternalValue, flat, owned_of, World, own_store, const_value, joined_stores, all_there, starts_of, seen_as, segments, Pending, Move, Run, StartDependsOnlyOnItsFrames, SequentialRun}
+use Rattle.wasm_meaning.specs.Prelude.{view_over, own_segments, goes_on, tick_sequential, HasNoActive}
 use Rattle.index_remap.specs.Prelude.{BothRel, ListRel, CodeIsRelatedToItself, RelatedTicksAgree, OthersStay}
 use Rattle.world_simulation.specs.Prelude.{OwnCorrespond}
 use Rattle.world_extension_proof.specs.Extends.{TableExtends, MemoryExtends, GlobalExtends, Extends, StoresExtendThemselves}
@@ -106,14 +107,16 @@ module _ (env : Environment) (w : World) (insts : List Inst) (allocated : Store)
   pub own_related : (k : ℕ) → OwnCorrespond (reaching env w.parts k) env
   own_related k = g.own (is_reached env w.parts k) env (shares_own env w.parts k)
 
-module _ (env : Environment) (w : World) (insts : List Inst) (allocated : Store) (g : IsGiven env w insts allocated) (itself : CodeIsRelatedToItself) (below : StartDependsOnlyOnItsFrames) (extend : ExtensionLaws) (ticks : RelatedTicksAgree) (others : OthersStay) (view : List (Text × ExternalValue)) (view_is : all_there (seen_as insts) w.view ≡ Some view) (IsFilled : ℕ → Store → Type 0) where
+module _ (env : Environment) (w : World) (insts : List Inst) (allocated : Store) (g : IsGiven env w insts allocated) (itself : CodeIsRelatedToItself) (below : StartDependsOnlyOnItsFrames) (extend : ExtensionLaws) (ticks : RelatedTicksAgree) (others : OthersStay) (view : List (Text × ExternalValue))
+    (view_is : all_there (seen_as insts) w.view ≡ Some view) (IsFilled : ℕ → Store → Type 0) where
   abbrev after : Store
   after = (segments env w.parts insts allocated).store
 
   -- what is known of stores whose first parts' segments were copied
   pub record FillLaws : Type 0 where
     pub filled_none : IsFilled 0 (own_store env)
-    pub filled_next : (k : ℕ) (m : Module) (i : Inst) (t : Store) → module_at w.parts k ≡ Some m → slice_get insts k ≡ Some i → IsFilled k t → ((own_segments (const_value t.globals i) m i (joined_stores t (g.laid.adds k))).trapped ≡ false) × IsFilled (suc k) (own_segments (const_value t.globals i) m i (joined_stores t (g.laid.adds k))).store
+    pub filled_next : (k : ℕ) (m : Module) (i : Inst) (t : Store) → module_at w.parts k ≡ Some m → slice_get insts k ≡ Some i → IsFilled k t →
+        ((own_segments (const_value t.globals i) m i (joined_stores t (g.laid.adds k))).trapped ≡ false) × IsFilled (suc k) (own_segments (const_value t.globals i) m i (joined_stores t (g.laid.adds k))).store
     pub filled_all : (k : ℕ) (t : Store) → k ≤ length w.parts → IsFilled k t → ((p : ℕ) (m : Module) → k ≤ p → module_at w.parts p ≡ Some m → HasNoActive m) → after ≡ joined_stores t (g.laid.rest k)
     pub filled_sized : (k : ℕ) (t : Store) → k ≤ length w.parts → IsFilled k t → Sized env w.parts k t
 

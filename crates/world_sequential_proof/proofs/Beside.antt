@@ -152,7 +152,8 @@ module _ (law : CodeIsRelatedToItself) (env : Environment) (parts : List Part) (
     next_both P t s z old self same a l = joined_both P (get t) mine (get s) (base env parts k p) (counts.sized p t z) old self (λ j l. same (base env parts k p + j) (omega arith) ∙ stands j l) a (rw (← counted) l)
 
   -- the functions of the first parts and of the next
-  pub sound_joined : (fs : List Func) → ((a : ℕ) (f : Func) → slice_get fs a ≡ Some f → Sound env parts p f) → ((n : ℕ) (f : Func) → slice_get (laid.adds p).funcs n ≡ Some f → Sound env parts (suc p) f) → (a : ℕ) (f : Func) → slice_get (fs ++ (laid.adds p).funcs) a ≡ Some f → Sound env parts (suc p) f
+  pub sound_joined : (fs : List Func) → ((a : ℕ) (f : Func) → slice_get fs a ≡ Some f → Sound env parts p f) → ((n : ℕ) (f : Func) → slice_get (laid.adds p).funcs n ≡ Some f → Sound env parts (suc p) f) → (a : ℕ) (f : Func) → slice_get (fs ++ (laid.adds p).funcs) a ≡ Some f →
+      Sound env parts (suc p) f
   sound_joined fs old new a f e = elim (append_from fs (laid.adds p).funcs a f e) [
     | inl low ↦ sound_more env parts p (suc p) f base_more (old a f low)
     | inr high ↦ new high.0 f high.2

@@ -5,7 +5,8 @@ use Rattle.base_lists.proofs.Options.{then_none}
 use Rattle.wasm_tree_spec.specs.Prelude.{Space, Functions, Tables, Memories, Globals, DataSegments, ElementSegments, Types, same_space, Import, ImportDesc, ExportDesc, Module, index_of_export, space_of_export, space_of_import}
 use Rattle.wasm_tree.specs.declared.module.ImportDesc.TheVariants as im
 use Rattle.wasm_tree.specs.declared.module.ExportDesc.TheVariants as ex
-use Rattle.wasm_meaning.specs.Prelude.{Inst, PathStep, EndsWith, LeadsTo, walk, walk_on, Part, Site, Entity, End, places, has_kind, imports_of, module_at, imported_as, import_step, sites, end_of, Environment, ExternalValue, FuncAt, TableAt, MemoryAt, GlobalAt, defined_count, base, external_value_at, address_of, defined_external_value, imported_external_value, all_there, numbers, space, inst_of, address_in, addresses_of}
+use Rattle.wasm_meaning.specs.Prelude.{Inst, PathStep, EndsWith, LeadsTo, walk, walk_on, Part, Site, Entity, End, places, has_kind, imports_of, module_at, imported_as, import_step, sites, end_of, Environment, ExternalValue, FuncAt, TableAt, MemoryAt, GlobalAt, defined_count, base, external_value_at}
+use Rattle.wasm_meaning.specs.Prelude.{address_of, defined_external_value, imported_external_value, all_there, numbers, space, inst_of, address_in, addresses_of}
 use Rattle.merge_valid_proof.specs.Ended.{is_external}
 use Rattle.world_simulation.specs.Prelude.{import_address, IsInst}
 use Rattle.world_sequential_proof.proofs.PartLaws.{Instances}

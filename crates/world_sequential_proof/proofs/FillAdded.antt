@@ -41,7 +41,8 @@ module _ (v w : Values) (m : Module) (i : Inst) where
       let es = all_given _ (elem_with w) m.elems t.elems (λ n s y at. elem_given s y (he n s at)) x.elems in
       rw (x.funcs, gs, es, ← x.tables, ← x.mems, ← x.datas)
 
-module _ (env : Environment) (parts : List Part) (insts : List Inst) (are : Instances env parts insts) (allocated : Store) (stores_are : stores_from env parts insts (own_store env) 0 parts insts ≡ Some allocated) (matched : EachMatches env parts allocated) (size : length insts ≡ length parts) (there : ExportsThere parts) (earlier : JoinsEarlier parts) where
+module _ (env : Environment) (parts : List Part) (insts : List Inst) (are : Instances env parts insts) (allocated : Store) (stores_are : stores_from env parts insts (own_store env) 0 parts insts ≡ Some allocated) (matched : EachMatches env parts allocated) (size : length insts ≡ length parts)
+    (there : ExportsThere parts) (earlier : JoinsEarlier parts) where
   pub added_same : (k : ℕ) (m : Module) (i : Inst) → module_at parts k ≡ Some m → slice_get insts k ≡ Some i → Constants m → (t : Store) → HoldsFixed env parts allocated k t → (a : Store) → part_store env parts insts k m i ≡ Some a → store_with (const_value t.globals i) m i ≡ Some a
   added_same k m i is_part is_inst c t holds a h =
       store_given (value_of env parts insts k) (const_value t.globals i) m i

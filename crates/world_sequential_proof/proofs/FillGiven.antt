@@ -12,7 +12,8 @@ use Rattle.world_sequential_proof.proofs.FillSegments.{FilledUpto}
 
 -- ---- sequential stores ----
 
-module _ (env : Environment) (parts : List Part) (insts : List Inst) (are : Instances env parts insts) (allocated : Store) (stores_are : stores_from env parts insts (own_store env) 0 parts insts ≡ Some allocated) (matched : EachMatches env parts allocated) (size : length insts ≡ length parts) (there : ExportsThere parts) (earlier : JoinsEarlier parts) where
+module _ (env : Environment) (parts : List Part) (insts : List Inst) (are : Instances env parts insts) (allocated : Store) (stores_are : stores_from env parts insts (own_store env) 0 parts insts ≡ Some allocated) (matched : EachMatches env parts allocated) (size : length insts ≡ length parts)
+    (there : ExportsThere parts) (earlier : JoinsEarlier parts) where
   pub adds_at : (k : ℕ) (m : Module) (i : Inst) → module_at parts k ≡ Some m → slice_get insts k ≡ Some i → part_store env parts insts k m i ≡ Some (or_no_store (added_at env parts insts k))
   adds_at k m i is_part is_inst = let a = part_adds env parts insts allocated stores_are size k m i is_part is_inst in rw (added_is env parts insts k m i a.0 is_part is_inst a.1) a.1
 

@@ -70,7 +70,8 @@ module _ {S : Type 0} (job : Values → Inst → ℕ → S → Job) where
       rest = rest_jobs X Y fill empty jobs_of
 
       -- the tasks of all parts, by part
-      module _ (tasks : ℕ → List Part → List Inst → List (PlacedSegment S)) (no_tasks : (p : ℕ) → tasks p [] [] ≡ []) (more_tasks : (p : ℕ) (part : Part) (ps : List Part) (i : Inst) (is : List Inst) → tasks p (part ∷ ps) (i ∷ is) ≡ segments_in p i (addresses i) (segments_of part.«module») ++ tasks (suc p) ps is) where
+      module _ (tasks : ℕ → List Part → List Inst → List (PlacedSegment S)) (no_tasks : (p : ℕ) → tasks p [] [] ≡ [])
+          (more_tasks : (p : ℕ) (part : Part) (ps : List Part) (i : Inst) (is : List Inst) → tasks p (part ∷ ps) (i ∷ is) ≡ segments_in p i (addresses i) (segments_of part.«module») ++ tasks (suc p) ps is) where
         by_part : (p : ℕ) (ps : List Part) (is : List Inst) → ((q : ℕ) → module_at ps q ≡ module_at parts (p + q)) → ((q : ℕ) → slice_get is q ≡ slice_get insts (p + q)) → length is ≡ length ps → map (task_job (value_of env parts insts)) (tasks p ps is) ≡ rest (length ps) p
         by_part p [] [] f g e = rw (no_tasks p)
         by_part p (part ∷ ps) (i ∷ is) f g e =

@@ -3,7 +3,8 @@ use Rattle.world_sequential_proof.proofs.PartLaws.{Instances}
 use Rattle.world_sequential_proof.proofs.ExternalValues.{part_inst}
 use Rattle.base_lists.proofs.Common.{◌≡◌, ◌∙◌, refl, ℕ, suc, List, ◌++◌, length, Some, false, append_assoc, arith, slice_get, and_then_is, slice_get_within}
 use Rattle.wasm_tree_spec.specs.Prelude.{Space, Tables, Memories, DataSegments, ElementSegments, ConstExpr, Module}
-use Rattle.wasm_meaning.specs.Prelude.{Val, numbers, defined_count, Inst, Table, Memory, Elem, Data, Store, no_items, no_bytes, Part, module_at, Environment, base, own_store, stores_from, part_store, joined_stores, const_value, value_of, placed_elems, placed_datas, segments, defined_before, JoinsEarlier, own_segments}
+use Rattle.wasm_meaning.specs.Prelude.{Val, numbers, defined_count, Inst, Table, Memory, Elem, Data, Store, no_items, no_bytes, Part, module_at, Environment, base, own_store, stores_from, part_store, joined_stores, const_value, value_of, placed_elems, placed_datas, segments, defined_before}
+use Rattle.wasm_meaning.specs.Prelude.{JoinsEarlier, own_segments}
 use Rattle.world_sequential_proof.proofs.Joined.{ExportsThere}
 use Rattle.world_sequential_proof.proofs.FillAddresses.{numbers_low, space_low}
 use Rattle.world_sequential_proof.proofs.FillStores.{rest_from, rest_next, Lengths, lengths_next}
@@ -17,7 +18,8 @@ use Rattle.world_sequential_proof.proofs.FillJobs.{AllBelow}
 use Rattle.world_sequential_proof.proofs.FillSegments.{both_went, own_go, elem_jobs_of, data_jobs_of, elem_jobs_at, data_jobs_at, FilledUpto, filled_holds, all_elems, all_datas}
 use Rattle.world_simulation.specs.Prelude.{IsInst}
 
-module _ (env : Environment) (parts : List Part) (insts : List Inst) (are : Instances env parts insts) (allocated : Store) (stores_are : stores_from env parts insts (own_store env) 0 parts insts ≡ Some allocated) (matched : EachMatches env parts allocated) (size : length insts ≡ length parts) (there : ExportsThere parts) (earlier : JoinsEarlier parts) where
+module _ (env : Environment) (parts : List Part) (insts : List Inst) (are : Instances env parts insts) (allocated : Store) (stores_are : stores_from env parts insts (own_store env) 0 parts insts ≡ Some allocated) (matched : EachMatches env parts allocated) (size : length insts ≡ length parts)
+    (there : ExportsThere parts) (earlier : JoinsEarlier parts) where
   -- the store after the segments of part k, where nothing else has changed
   pub record StoreFilled (k : ℕ) (m : Module) (i : Inst) (t a : Store) : Type 0 where
     pub store : Store
@@ -56,8 +58,10 @@ module _ (env : Environment) (parts : List Part) (insts : List Inst) (are : Inst
           let all = both_went (value_of env parts insts) (placed_elems 0 parts insts) (placed_datas 0 parts insts) allocated well in
           let b = and_then_is (slice_get parts k) (λ part. Some part.«module») m is_part in
           let l = slice_get_within parts k b.0 b.1 in
-          let es = next_runs Table Elem table_fill no_items (elem_jobs_of env parts insts) (length parts) k l (allocated.tables, allocated.elems) _ all.0 (rw (all_elems env parts insts allocated stores_are size) at all.2) (rw (rest, ← append_assoc t.tables a.tables later.tables, ← append_assoc t.elems a.elems later.elems) at filled.tables) in
-          let ds = next_runs Memory Data memory_fill no_bytes (data_jobs_of env parts insts) (length parts) k l (allocated.mems, allocated.datas) _ all.1 (rw (all_datas env parts insts allocated stores_are size) at all.3) (rw (rest, ← append_assoc t.mems a.mems later.mems, ← append_assoc t.datas a.datas later.datas) at filled.mems) in
+          let es = next_runs Table Elem table_fill no_items (elem_jobs_of env parts insts) (length parts) k l (allocated.tables, allocated.elems) _ all.0 (rw (all_elems env parts insts allocated stores_are size) at all.2)
+              (rw (rest, ← append_assoc t.tables a.tables later.tables, ← append_assoc t.elems a.elems later.elems) at filled.tables) in
+          let ds = next_runs Memory Data memory_fill no_bytes (data_jobs_of env parts insts) (length parts) k l (allocated.mems, allocated.datas) _ all.1 (rw (all_datas env parts insts allocated stores_are size) at all.3)
+              (rw (rest, ← append_assoc t.mems a.mems later.mems, ← append_assoc t.datas a.datas later.datas) at filled.mems) in
           let elems = elems_low (value_of env parts insts k) i (base env parts Tables (suc k)) (defined_before ElementSegments parts (suc k)) (space_low env parts there earlier are k m i is_part inst Tables) i.elems m.elems (own_low ElementSegments i.elems inst.elems) in
           let e = runs_front Table Elem table_fill no_items later.tables later.elems (elem_jobs (value_of env parts insts k) i i.elems m.elems) _ _ elems (t.tables ++ a.tables) (t.elems ++ a.elems) lengths.tables lengths.elems es.0 (rw (← elem_jobs_at env parts insts k m i is_part is_inst) es.1) in
           let datas = datas_low (value_of env parts insts k) i (base env parts Memories (suc k)) (defined_before DataSegments parts (suc k)) (space_low env parts there earlier are k m i is_part inst Memories) i.datas m.datas (own_low DataSegments i.datas inst.datas) in

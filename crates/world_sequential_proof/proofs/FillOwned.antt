@@ -1,7 +1,8 @@
 -- The environment's own entities have addresses of their kind, below the number of what it has.
 use Rattle.base_lists.proofs.Common.{◌≡◌, ◌∙◌, refl, sym, ap, ℕ, suc, ◌+◌, ◌<◌, List, [], ◌∷◌, ◌++◌, map, length, Option, Some, None, Bool, true, ◌⊎◌, inl, inr, arith, add-zero, zero-add, cases_Bool, same_Some, append_rel, self_rel, maps_rel, add_next}
 use Rattle.wasm_tree_spec.specs.Prelude.{Space, Functions, Tables, Memories, Globals}
-use Rattle.wasm_meaning.specs.Prelude.{Environment, Offer, OwnKey, FuncKey, TableKey, MemoryKey, GlobalKey, ExternalValue, FuncAt, TableAt, MemoryAt, GlobalAt, Owned, same_key, look_up, owned_at, owned_of, addressed, flat, one_if, own_funcs, own_tables, own_memories, own_globals, own_count, external_value_at}
+use Rattle.wasm_meaning.specs.Prelude.{Environment, Offer, OwnKey, FuncKey, TableKey, MemoryKey, GlobalKey, ExternalValue, FuncAt, TableAt, MemoryAt, GlobalAt, Owned, same_key, look_up, owned_at, owned_of, addressed, flat, one_if, own_funcs, own_tables, own_memories, own_globals, own_count}
+use Rattle.wasm_meaning.specs.Prelude.{external_value_at}
 use Rattle.index_remap.specs.Prelude.{ListRel, nil, cons}
 
 abbrev pub kind_of_key : OwnKey → Space

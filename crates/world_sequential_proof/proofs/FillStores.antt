@@ -1,5 +1,6 @@
 -- The store of all parts at once is what the first of them add, then what the rest add.
-use Rattle.base_lists.proofs.Common.{◌≡◌, ◌∙◌, sym, ap, ℕ, zero, suc, ◌+◌, ◌-◌, ◌<◌, ◌≤◌, List, [], ◌∷◌, length, Option, Some, None, append_assoc, arith, add-zero, zero-add, slice_get, slice_get_there, slice_get_within, refl, append-nil, length-append, and_then_is, same_Some, add_next, all_there_length, length-map}
+use Rattle.base_lists.proofs.Common.{◌≡◌, ◌∙◌, sym, ap, ℕ, zero, suc, ◌+◌, ◌-◌, ◌<◌, ◌≤◌, List, [], ◌∷◌, length, Option, Some, None, append_assoc, arith, add-zero, zero-add, slice_get, slice_get_there, slice_get_within, refl, append-nil, length-append, and_then_is, same_Some, add_next}
+use Rattle.base_lists.proofs.Common.{all_there_length, length-map}
 use Rattle.base_lists.specs.Options.{◌>>=◌}
 use Rattle.wasm_tree_spec.specs.Prelude.{Space, Functions, Tables, Memories, Globals, ElementSegments, DataSegments, Module}
 use Rattle.wasm_meaning.specs.Prelude.{Inst, Store, Part, module_at, Environment, base, defined_before, value_of, part_store, joined_stores, own_store, stores_from}

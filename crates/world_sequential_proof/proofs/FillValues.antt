@@ -1,10 +1,12 @@
 -- A constant expression of a part has one value, whether it is read from the store as the part's turn comes or along its path through joined globals.
 use Rattle.world_sequential_proof.proofs.PartLaws.{Instances}
-use Rattle.base_lists.proofs.Common.{◌≡◌, ◌∙◌, refl, sym, ap, ℕ, zero, suc, ◌+◌, ◌-◌, ◌<◌, List, [], ◌∷◌, length, Some, true, false, inl, inr, arith, add-zero, zero-add, option_and_then, slice_get, right_true, same_Some, slice_get_there, slice_get_within, and_then_is, unwrap_or_false_is, add_next, all_there_length, length-map}
+use Rattle.base_lists.proofs.Common.{◌≡◌, ◌∙◌, refl, sym, ap, ℕ, zero, suc, ◌+◌, ◌-◌, ◌<◌, List, [], ◌∷◌, length, Some, true, false, inl, inr, arith, add-zero, zero-add, option_and_then, slice_get, right_true, same_Some, slice_get_there, slice_get_within, and_then_is, unwrap_or_false_is, add_next}
+use Rattle.base_lists.proofs.Common.{all_there_length, length-map}
 use Rattle.wasm_tree_spec.specs.Prelude.{Space, Globals, GlobalType, Import, ConstExpr, Module, index_of_export, space_of_import}
 use Rattle.wasm_tree.specs.declared.module.ImportDesc.TheVariants as im
 use Rattle.wasm_tree.specs.declared.module.ConstExpr.TheVariants as const
-use Rattle.wasm_meaning.specs.Prelude.{Val, Inst, Global, Store, same_type, walk, walk_on, Part, Site, End, Defined, Outside, Read, places, has_kind, space_index, imports_of, module_at, import_at, end_of, global_import, initial, outside_read, end_step, read_step, initials_from, read_of, Environment, GlobalAt, own_globals, base, imported_external_value, own_store, stores_from, same_bool, const_value, value_of, address_of, JoinsEarlier}
+use Rattle.wasm_meaning.specs.Prelude.{Val, Inst, Global, Store, same_type, walk, walk_on, Part, Site, End, Defined, Outside, Read, places, has_kind, space_index, imports_of, module_at, import_at, end_of, global_import, initial, outside_read, end_step, read_step, initials_from, read_of, Environment}
+use Rattle.wasm_meaning.specs.Prelude.{GlobalAt, own_globals, base, imported_external_value, own_store, stores_from, same_bool, const_value, value_of, address_of, JoinsEarlier}
 use Rattle.world_simulation.proofs.Allocated.{keeps}
 use Rattle.world_sequential_proof.proofs.ExternalValues.{walk_more, thing_has, part_inst}
 use Rattle.world_sequential_proof.proofs.Joined.{ExportsThere}
@@ -45,7 +47,8 @@ module _ (env : Environment) (parts : List Part) (insts : List Inst) (are : Inst
     part_there k m is_part = (let b = and_then_is (slice_get parts k) (λ part. Some part.«module») m is_part in slice_get_there insts k (omega (arith, slice_get_within parts k b.0 b.1)))
 
     -- the value of a global that a part defines is its value expression's
-    defined_value : (p : ℕ) (m : Module) (j : ℕ) (g : Global) → module_at parts p ≡ Some m → j < length m.globals → slice_get allocated.globals (base env parts Globals p + j) ≡ Some g → (e : ConstExpr) × (option_and_then (λ d. Some d.init) (slice_get m.globals j) ≡ Some e) × (value_of env parts insts p e ≡ Some g.value)
+    defined_value : (p : ℕ) (m : Module) (j : ℕ) (g : Global) → module_at parts p ≡ Some m → j < length m.globals → slice_get allocated.globals (base env parts Globals p + j) ≡ Some g →
+        (e : ConstExpr) × (option_and_then (λ d. Some d.init) (slice_get m.globals j) ≡ Some e) × (value_of env parts insts p e ≡ Some g.value)
     defined_value p m j g is_part low at =
         let i = part_there p m is_part in
         let d = slice_get_there m.globals j low in

@@ -14,7 +14,8 @@ use Rattle.world_sequential_proof.proofs.FillSegments.{FilledUpto}
 use Rattle.world_sequential_proof.proofs.FillNext
 use Rattle.world_sequential_proof.proofs.FillGiven
 
-module _ (env : Environment) (w : World) (insts : List Inst) (allocated : Store) (g : IsGiven env w insts allocated) (stores_are : stores_from env w.parts insts (own_store env) 0 w.parts insts ≡ Some allocated) (well : (segments env w.parts insts allocated).trapped ≡ false) (constants : (k : ℕ) (m : Module) → module_at w.parts k ≡ Some m → Constants m) where
+module _ (env : Environment) (w : World) (insts : List Inst) (allocated : Store) (g : IsGiven env w insts allocated) (stores_are : stores_from env w.parts insts (own_store env) 0 w.parts insts ≡ Some allocated) (well : (segments env w.parts insts allocated).trapped ≡ false)
+    (constants : (k : ℕ) (m : Module) → module_at w.parts k ≡ Some m → Constants m) where
   -- what the rest adds is the same, however the store is laid out
   rest_same : (n k : ℕ) → n + k ≡ length w.parts → rest_from env w.parts insts k ≡ g.laid.rest k
   rest_same zero k e =
@@ -28,7 +29,8 @@ module _ (env : Environment) (w : World) (insts : List Inst) (allocated : Store)
   each : EachMatches env w.parts allocated
   each = each_matches env w.parts allocated g.listed g.matched
 
-  pub fill_laws : (itself : CodeIsRelatedToItself) (below : StartDependsOnlyOnItsFrames) (extend : ExtensionLaws) (ticks : RelatedTicksAgree) (others : OthersStay) (view : List (Text × ExternalValue)) (view_is : all_there (seen_as insts) w.view ≡ Some view) → FillLaws env w insts allocated g itself below extend ticks others view view_is (FilledUpto env w.parts insts allocated)
+  pub fill_laws : (itself : CodeIsRelatedToItself) (below : StartDependsOnlyOnItsFrames) (extend : ExtensionLaws) (ticks : RelatedTicksAgree) (others : OthersStay) (view : List (Text × ExternalValue)) (view_is : all_there (seen_as insts) w.view ≡ Some view) →
+      FillLaws env w insts allocated g itself below extend ticks others view view_is (FilledUpto env w.parts insts allocated)
   fill_laws itself below extend ticks others view view_is = record {
     filled_none = FillSegments.filled_none env w.parts insts allocated stores_are g.size;
     filled_next = λ k m i t is_part is_inst h.

@@ -1,7 +1,8 @@
 -- What is known of a world whose parts are to be instantiated sequentially, and what its next part's turn comes to.
 use Rattle.base_lists.proofs.Common.{◌≡◌, ◌∙◌, refl, ap, ap₂, ℕ, zero, suc, List, [], ◌∷◌, ◌++◌, map, length, Option, Some, None, true, false, arith, drop, option_and_then, slice_get, same_Some}
 use Rattle.wasm_tree_spec.specs.Prelude.{ConstExpr, Module}
-use Rattle.wasm_meaning.specs.Prelude.{Val, Inst, Func, Store, Opening, type_of_func, Part, module_at, sites, Environment, owned_of, all_of, World, Filled, store_with, const_value, joined_stores, all_there, is_matched, start_in, starts_of, added, added_as, external_value_for, own_segments, Run, SequentialRun, goes_on, tick_sequential, JoinsEarlier, HasNoActive, NoLateSegments}
+use Rattle.wasm_meaning.specs.Prelude.{Val, Inst, Func, Store, Opening, type_of_func, Part, module_at, sites, Environment, owned_of, all_of, World, Filled, store_with, const_value, joined_stores, all_there, is_matched, start_in, starts_of, added, added_as, external_value_for, own_segments, Run}
+use Rattle.wasm_meaning.specs.Prelude.{SequentialRun, goes_on, tick_sequential, JoinsEarlier, HasNoActive, NoLateSegments}
 use Rattle.world_simulation.specs.Prelude.{OwnEntitiesCorrespond}
 use Rattle.world_sequential_proof.proofs.Joined.{ExportsThere, made_upto, module_is}
 use Rattle.world_sequential_proof.proofs.OnePart.{Sized, Holds, SitesThere, comes}

@@ -2,7 +2,8 @@
 use Rattle.world_sequential_proof.proofs.PartLaws.{Instances}
 use Rattle.base_lists.proofs.Common.{◌≡◌, ◌∙◌, refl, ap, ℕ, zero, suc, ◌+◌, ◌<◌, ◌≤◌, List, [], ◌∷◌, length, Option, Some, None, Bool, true, false, cond, arith, add-zero, zero-add, slice_get, and_then_is, same_Some, add_next}
 use Rattle.wasm_tree_spec.specs.Prelude.{Import, ExportDesc, Module, index_of_export, space_of_export}
-use Rattle.wasm_meaning.specs.Prelude.{Text, Inst, Part, Site, Entity, Defined, Outside, imports_of, module_at, export_named, first_place, source_of, joined, imported_as, joined_step, import_step, end_of, Environment, ExternalValue, owned_of, defined_count, external_value_of, imported_external_value, address_in, external_value_for, JoinsEarlier}
+use Rattle.wasm_meaning.specs.Prelude.{Text, Inst, Part, Site, Entity, Defined, Outside, imports_of, module_at, export_named, first_place, source_of, joined, imported_as, joined_step, import_step, end_of, Environment, ExternalValue, owned_of, defined_count, external_value_of}
+use Rattle.wasm_meaning.specs.Prelude.{imported_external_value, address_in, external_value_for, JoinsEarlier}
 use Rattle.wasm_meaning.specs.Linking.{is_named}
 use Rattle.wasm_meaning.specs.Sequential.{Made, made_named, exported_by, external_value_or_own}
 use Rattle.world_sequential_proof.proofs.ExternalValues.{goes_to, ends_at, defined_is, imported_is, part_inst}
@@ -80,7 +81,8 @@ module _ (env : Environment) (parts : List Part) (insts : List Inst) (are : Inst
     thing_same x h = by_source (named i.«module» p 0 parts insts size)
       where
         -- the part that is named was there
-        there_before : (q : ℕ) (part : Part) (inst : Inst) → source_of parts i ≡ Some q → slice_get parts q ≡ Some part → slice_get insts q ≡ Some inst → made_named (made p) i.«module» ≡ Some (record { part = part; inst = inst }) → (o : Option ExportDesc) → export_named part.«module».exports i.field ≡ o → external_value_for (owned_of env) (made p) m i ≡ Some x
+        there_before : (q : ℕ) (part : Part) (inst : Inst) → source_of parts i ≡ Some q → slice_get parts q ≡ Some part → slice_get insts q ≡ Some inst → made_named (made p) i.«module» ≡ Some (record { part = part; inst = inst }) → (o : Option ExportDesc) →
+            export_named part.«module».exports i.field ≡ o → external_value_for (owned_of env) (made p) m i ≡ Some x
         there_before q part inst s a b c None e = stays_own x (exported_by (made p) i) (rw (s, a, e)) (rw (c, e)) h
         there_before q part inst s a b c (Some d) e = rw (c, e) (joins x q part inst d (rw (s, a, e)) a b h)
 

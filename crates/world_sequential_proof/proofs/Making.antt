@@ -1,7 +1,8 @@
 -- While a start is made, the sequential run and the run at once make the same steps.
 use Rattle.base_lists.proofs.Common.{◌≡◌, ◌∙◌, refl, ap, subst, ℕ, ◌<◌, ◌≤◌, List, [], ◌∷◌, ◌++◌, length, Option, Some, None, arith, slice_get, length_rel}
 use Rattle.wasm_tree_spec.specs.Prelude.{Space, Functions, Tables, Memories, Globals, ElementSegments, DataSegments, FuncType}
-use Rattle.wasm_meaning.specs.Prelude.{Text, Func, Code, Own, Store, Entry, Running, Opening, Waiting, type_of_func, zeros, Part, Environment, ExternalValue, owned_of, base, Event, Asked, Phase, Pending, Closed, Run, Out, tick, IsBottom, GivesNothing, a_frame, a_call, over, AgreeOnFrames, ended, trapped, StartDependsOnlyOnItsFrames}
+use Rattle.wasm_meaning.specs.Prelude.{Text, Func, Code, Own, Store, Entry, Running, Opening, Waiting, type_of_func, zeros, Part, Environment, ExternalValue, owned_of, base, Event, Asked, Phase, Pending, Closed, Run, Out, tick, IsBottom, GivesNothing, a_frame, a_call, over, AgreeOnFrames, ended}
+use Rattle.wasm_meaning.specs.Prelude.{trapped, StartDependsOnlyOnItsFrames}
 use Rattle.wasm_meaning.specs.StartFrames.{goes_on}
 use Rattle.index_remap.specs.Prelude.{Pairing, nil, cons, opening, pending, RunRel, OutRel, KeepsOthers, HasNoPartner, EntryByEntry, RelatedTicksAgree, OthersStay}
 use Rattle.index_remap.specs.Related as to
@@ -26,7 +27,8 @@ abbrev pub event_of : Func → Option Event
 event_of (Own p t) = Some (Asked p t [])
 event_of f = None
 
-pub opened : (env : Environment) (parts : List Part) (p : ℕ) (r : Run) (a : ℕ) (xs : List ℕ) (f : Func) → r.entries ≡ Opening (a ∷ xs) ∷ [] → slice_get r.store.funcs a ≡ Some f → type_of_func f ≡ nothing_to_nothing → Sound env parts p f → tick r ≡ (record r { entries = entry_of f ∷ Opening xs ∷ [] }, event_of f)
+pub opened : (env : Environment) (parts : List Part) (p : ℕ) (r : Run) (a : ℕ) (xs : List ℕ) (f : Func) → r.entries ≡ Opening (a ∷ xs) ∷ [] → slice_get r.store.funcs a ≡ Some f → type_of_func f ≡ nothing_to_nothing → Sound env parts p f →
+    tick r ≡ (record r { entries = entry_of f ∷ Opening xs ∷ [] }, event_of f)
 opened env parts p r a xs f e h ty own_func = rw (e, h, ty)
 opened env parts p r a xs f e h ty (code k) = rw (e, h, ty)
 

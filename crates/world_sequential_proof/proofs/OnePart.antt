@@ -3,7 +3,8 @@ use Rattle.world_sequential_proof.proofs.PartLaws.{Instances}
 use Rattle.base_lists.proofs.Common.{◌≡◌, refl, ℕ, suc, ◌+◌, ◌<◌, List, [], ◌∷◌, length, Option, Some, true, arith, slice_get, and_parts, and_then_is, same_Some, add-zero, zero-add, unwrap_or_false_is, list_all_each, add_next}
 use Rattle.wasm_tree_spec.specs.Prelude.{Space, Functions, Tables, Memories, Globals, DataSegments, ElementSegments, Import, ImportDesc, Module, same_ref}
 use Rattle.wasm_tree.specs.declared.module.ImportDesc.TheVariants as im
-use Rattle.wasm_meaning.specs.Prelude.{address_of, meets, Inst, Table, Memory, Global, Store, Part, Site, module_at, import_at, sites, Environment, ExternalValue, FuncAt, TableAt, MemoryAt, GlobalAt, owned_of, all_of, base, imported_external_value, all_there, is_match, is_matched, defined_before, next_inst, all_match, external_value_for, JoinsEarlier}
+use Rattle.wasm_meaning.specs.Prelude.{address_of, meets, Inst, Table, Memory, Global, Store, Part, Site, module_at, import_at, sites, Environment, ExternalValue, FuncAt, TableAt, MemoryAt, GlobalAt, owned_of, all_of, base, imported_external_value, all_there, is_match, is_matched, defined_before}
+use Rattle.wasm_meaning.specs.Prelude.{next_inst, all_match, external_value_for, JoinsEarlier}
 use Rattle.world_simulation.specs.Prelude.{OwnEntitiesCorrespond}
 use Rattle.world_extension_proof.specs.Extends.{TableExtends, MemoryExtends, GlobalExtends}
 use Rattle.world_sequential_proof.proofs.ExternalValues.{space_is, each_from, gathered}
@@ -67,7 +68,8 @@ pub matches : (env : Environment) (parts : List Part) (allocated : Store) → Si
 matches env parts allocated listed matched p n m i x is_part here h =
     unwrap_or_false_is (is_match allocated m i.desc x) (rw (h, is_part, here) at (each_matches env parts allocated listed matched (record { part = p; import = n }) i (rw (is_part, here))))
 
-module _ (env : Environment) (parts : List Part) (insts : List Inst) (are : Instances env parts insts) (size : length insts ≡ length parts) (earlier : JoinsEarlier parts) (own : OwnEntitiesCorrespond) (listed : SitesThere parts) (allocated : Store) (matched : all_of (is_matched env parts allocated) (sites parts) ≡ true) where
+module _ (env : Environment) (parts : List Part) (insts : List Inst) (are : Instances env parts insts) (size : length insts ≡ length parts) (earlier : JoinsEarlier parts) (own : OwnEntitiesCorrespond) (listed : SitesThere parts) (allocated : Store)
+    (matched : all_of (is_matched env parts allocated) (sites parts) ≡ true) where
   module _ (p : ℕ) (m : Module) (i : Inst) (is_part : module_at parts p ≡ Some m) (is_inst : slice_get insts p ≡ Some i) (t : Store) (sized : Sized env parts p t) (holds : Holds env parts p allocated t) where
     abbrev imported : ℕ → Option ExternalValue
     imported n = imported_external_value env parts (record { part = p; import = n })

@@ -1,7 +1,8 @@
 -- After the starts: a closed run stays closed, and a view that opens shows what the parts have.
 use Rattle.base_lists.proofs.Common.{◌≡◌, ◌∙◌, refl, sym, ℕ, ◌<◌, List, [], ◌∷◌, Option, Some, None, true, false, cond, slice_get, nat_eq, and_then_is, same_Some, all_there_back, with_there, either_all}
 use Rattle.wasm_tree_spec.specs.Prelude.{Functions, Tables, Memories, Globals, Space, space_of_export, index_of_export}
-use Rattle.wasm_meaning.specs.Prelude.{external_value_at, overwrite, received, received_ref, place_at, byte_of, Text, Inst, Store, Entry, Phase, Event, Makes, memory_may_grow, table_may_grow, Part, Entity, Environment, ExternalValue, FuncAt, TableAt, MemoryAt, GlobalAt, Shown, base, all_there, address_in, seen_as, Move, Get, Size, Set, Extend, Closed, Run, Out, Transition, made, got, size_of, set, extended, moved, or_bad, is_taken_closed, closed_move, tick}
+use Rattle.wasm_meaning.specs.Prelude.{external_value_at, overwrite, received, received_ref, place_at, byte_of, Text, Inst, Store, Entry, Phase, Event, Makes, memory_may_grow, table_may_grow, Part, Entity, Environment, ExternalValue, FuncAt, TableAt, MemoryAt, GlobalAt, Shown, base, all_there}
+use Rattle.wasm_meaning.specs.Prelude.{address_in, seen_as, Move, Get, Size, Set, Extend, Closed, Run, Out, Transition, made, got, size_of, set, extended, moved, or_bad, is_taken_closed, closed_move, tick}
 use Rattle.index_remap.specs.Prelude.{ListRel, ExternalValueRel, a_func, a_table, a_memory, a_global, KeyRel}
 use Rattle.base_lists.specs.Related.{IfThere, absent, present}
 use Rattle.world_sequential_proof.proofs.ExternalValues.{space_in, address_is}

@@ -1,7 +1,8 @@
 -- The stages of a run whose parts are instantiated sequentially beside the run of the world at once: parts are added, a start is made, the view opens.
 use Rattle.base_lists.proofs.Common.{◌≡◌, ◌∙◌, refl, sym, ap, ap₂, ℕ, zero, suc, ◌+◌, ◌<◌, ◌≤◌, List, [], ◌∷◌, ◌++◌, length, Option, Some, None, ◌⊎◌, inl, inr, arith, drop, slice_get, cases_lt, slice_get_there, slice_get_within}
 use Rattle.wasm_tree_spec.specs.Prelude.{Functions, Module, Space}
-use Rattle.wasm_meaning.specs.Prelude.{const_value, Linked, Text, Inst, Func, Store, Entry, Opening, type_of_func, Part, module_at, Environment, ExternalValue, World, base, all_there, joined_stores, start_in, one_place, seen_as, Pending, Opened, Closed, Run, Out, tick, GivesNothing, a_frame, a_call, over, StartDependsOnlyOnItsFrames, SequentialRun, view_over, goes_on, tick_sequential, HasNoActive}
+use Rattle.wasm_meaning.specs.Prelude.{const_value, Linked, Text, Inst, Func, Store, Entry, Opening, type_of_func, Part, module_at, Environment, ExternalValue, World, base, all_there, joined_stores, start_in, one_place, seen_as, Pending, Opened, Closed, Run, Out, tick, GivesNothing, a_frame, a_call}
+use Rattle.wasm_meaning.specs.Prelude.{over, StartDependsOnlyOnItsFrames, SequentialRun, view_over, goes_on, tick_sequential, HasNoActive}
 use Rattle.wasm_meaning.specs.Sequential.{with_run, turn_at}
 use Rattle.index_remap.specs.Prelude.{nil, opened, RunRel, CodeIsRelatedToItself, EntryByEntry, RelatedTicksAgree, OthersStay}
 use Rattle.std.proofs.Math.Seq.{drop-length}
@@ -33,7 +34,8 @@ not_opening _ cs (over {e = _} n g) h = cc
 turn_last : (q : SequentialRun) → q.rest ≡ [] → tick_sequential q ≡ with_run q (tick q.run)
 turn_last q e = rw e
 
-module _ (env : Environment) (w : World) (insts : List Inst) (allocated : Store) (g : IsGiven env w insts allocated) (itself : CodeIsRelatedToItself) (below : StartDependsOnlyOnItsFrames) (extend : ExtensionLaws) (ticks : RelatedTicksAgree) (others : OthersStay) (view : List (Text × ExternalValue)) (view_is : all_there (seen_as insts) w.view ≡ Some view) where
+module _ (env : Environment) (w : World) (insts : List Inst) (allocated : Store) (g : IsGiven env w insts allocated) (itself : CodeIsRelatedToItself) (below : StartDependsOnlyOnItsFrames) (extend : ExtensionLaws) (ticks : RelatedTicksAgree) (others : OthersStay) (view : List (Text × ExternalValue))
+    (view_is : all_there (seen_as insts) w.view ≡ Some view) where
   abbrev Same : ℕ → Run → Run → Type 0
   Same k u r = RunRel (reaching env w.parts k) (EntryByEntry (reaching env w.parts k)) (EntryByEntry (reaching env w.parts k)) u r
 

@@ -1,6 +1,7 @@
 -- The start of a valid part is a function that takes nothing and gives nothing.
 use Rattle.world_sequential_proof.proofs.PartLaws.{Instances}
-use Rattle.base_lists.proofs.Common.{◌≡◌, ◌∙◌, sym, ap, ap₂, ℕ, suc, ◌+◌, ◌≤◌, List, map, length, Option, Some, true, inl, inr, arith, slice_get, option_and_then, slice_get_within, same_Some, map_from, append_from, slice_get_there, append_at_left, append_right, place_of, places_many, and_then_is, all_there_at, all_there_length, numbers_at, option_map_is, is_some}
+use Rattle.base_lists.proofs.Common.{◌≡◌, ◌∙◌, sym, ap, ap₂, ℕ, suc, ◌+◌, ◌≤◌, List, map, length, Option, Some, true, inl, inr, arith, slice_get, option_and_then, slice_get_within, same_Some, map_from, append_from, slice_get_there, append_at_left, append_right, place_of, places_many, and_then_is}
+use Rattle.base_lists.proofs.Common.{all_there_at, all_there_length, numbers_at, option_map_is, is_some}
 use Rattle.wasm_tree_spec.specs.Prelude.{Functions, FuncType, Module, func_of, imported_funcs, funcs_of, type_of_func, Import}
 use Rattle.wasm_tree.specs.declared.module.Func as tree
 use Rattle.wasm_tree.specs.declared.module.ImportDesc.TheVariants as im
@@ -25,7 +26,8 @@ pub record HasFunc (i : Inst) (allocated : Store) (x : ℕ) (t : FuncType) : Typ
   pub there : slice_get allocated.funcs address ≡ Some func
   pub type : control.type_of_func func ≡ t
 
-module _ (same_types : (s t : FuncType) → same_func_type s t ≡ true → s ≡ t) (itself : CodeIsRelatedToItself) (env : Environment) (parts : List Part) (insts : List Inst) (are : Instances env parts insts) (size : length insts ≡ length parts) (earlier : JoinsEarlier parts) (listed : SitesThere parts) (allocated : Store) (laid : Laid env parts insts allocated) (matched : all_of (is_matched env parts allocated) (sites parts) ≡ true) where
+module _ (same_types : (s t : FuncType) → same_func_type s t ≡ true → s ≡ t) (itself : CodeIsRelatedToItself) (env : Environment) (parts : List Part) (insts : List Inst) (are : Instances env parts insts) (size : length insts ≡ length parts) (earlier : JoinsEarlier parts) (listed : SitesThere parts)
+    (allocated : Store) (laid : Laid env parts insts allocated) (matched : all_of (is_matched env parts allocated) (sites parts) ≡ true) where
   module _ (p x : ℕ) (m : Module) (i : Inst) (t : FuncType) (is_part : module_at parts p ≡ Some m) (at_inst : slice_get insts p ≡ Some i) where
     abbrev imported : ℕ → Option ExternalValue
     imported n = imported_external_value env parts (record { part = p; import = n })

@@ -1,7 +1,8 @@
 -- The whole run: parts that are instantiated sequentially show what the world shows at once.
 use Rattle.base_lists.proofs.Common.{◌≡◌, ◌∙◌, refl, sym, ap, ap₂, ℕ, zero, suc, ◌+◌, ◌*◌, ◌<◌, ◌≤◌, List, [], ◌∷◌, ◌++◌, length, Option, Some, None, false, ◌⊎◌, inl, inr, arith, drop, slice_get, unwrap_or, cases_lt, slice_get_there, slice_get_within, and_then_is}
 use Rattle.wasm_tree_spec.specs.Prelude.{Module}
-use Rattle.wasm_meaning.specs.Prelude.{Text, Inst, Store, Opening, Part, Entity, module_at, Environment, ExternalValue, owned_of, World, Begun, own_store, begun, all_there, start_in, starts_of, seen_as, segments, Pending, Move, Run, IsPrefix, fresh_run, tick, events_of, StartDependsOnlyOnItsFrames, SequentialRun, view_over, goes_on, tick_sequential, events_sequential, HasNoActive}
+use Rattle.wasm_meaning.specs.Prelude.{Text, Inst, Store, Opening, Part, Entity, module_at, Environment, ExternalValue, owned_of, World, Begun, own_store, begun, all_there, start_in, starts_of, seen_as, segments, Pending, Move, Run, IsPrefix, fresh_run, tick, events_of, StartDependsOnlyOnItsFrames}
+use Rattle.wasm_meaning.specs.Prelude.{SequentialRun, view_over, goes_on, tick_sequential, events_sequential, HasNoActive}
 use Rattle.wasm_meaning.specs.Sequential.{before_parts}
 use Rattle.base_simulation.proofs.Prefixes.{in_more_steps}
 use Rattle.index_remap.specs.Prelude.{nil, cons, opening, pending, CodeIsRelatedToItself, RelatedTicksAgree, OthersStay}
@@ -20,7 +21,8 @@ no_view : (vs : List (Text × Entity)) → unwrap_or (all_there (seen_as []) vs)
 no_view [] = refl
 no_view (v ∷ vs) = refl
 
-module _ (env : Environment) (w : World) (insts : List Inst) (allocated : Store) (g : IsGiven env w insts allocated) (itself : CodeIsRelatedToItself) (below : StartDependsOnlyOnItsFrames) (extend : ExtensionLaws) (ticks : RelatedTicksAgree) (others : OthersStay) (view : List (Text × ExternalValue)) (view_is : all_there (seen_as insts) w.view ≡ Some view) (IsFilled : ℕ → Store → Type 0) (laws : FillLaws env w insts allocated g itself below extend ticks others view view_is IsFilled) (fine : (segments env w.parts insts allocated).trapped ≡ false) (moves : List Move) where
+module _ (env : Environment) (w : World) (insts : List Inst) (allocated : Store) (g : IsGiven env w insts allocated) (itself : CodeIsRelatedToItself) (below : StartDependsOnlyOnItsFrames) (extend : ExtensionLaws) (ticks : RelatedTicksAgree) (others : OthersStay) (view : List (Text × ExternalValue))
+    (view_is : all_there (seen_as insts) w.view ≡ Some view) (IsFilled : ℕ → Store → Type 0) (laws : FillLaws env w insts allocated g itself below extend ticks others view view_is IsFilled) (fine : (segments env w.parts insts allocated).trapped ≡ false) (moves : List Move) where
   abbrev after : Store
   after = (segments env w.parts insts allocated).store
 
@@ -42,7 +44,8 @@ module _ (env : Environment) (w : World) (insts : List Inst) (allocated : Store)
     later_on : TheStage d r q → Early d r q
 
   -- after the turn of a part before which there was no start
-  module _ (k d : ℕ) (part : Part) (i : Inst) (r : Run) (q : SequentialRun) (at_part : slice_get w.parts k ≡ Some part) (at_inst : slice_get insts k ≡ Some i) (h : Filling k r q) (a : Advances env w insts allocated g itself below extend ticks others view view_is IsFilled laws moves k part i q) (l : length w.parts ≤ suc k + d) where
+  module _ (k d : ℕ) (part : Part) (i : Inst) (r : Run) (q : SequentialRun) (at_part : slice_get w.parts k ≡ Some part) (at_inst : slice_get insts k ≡ Some i) (h : Filling k r q) (a : Advances env w insts allocated g itself below extend ticks others view view_is IsFilled laws moves k part i q)
+      (l : length w.parts ≤ suc k + d) where
     abbrev next_state : SequentialRun
     next_state = goes_on q part (drop (suc k) w.parts) i a.next_store
 

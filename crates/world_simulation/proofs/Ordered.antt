@@ -1,7 +1,8 @@
 -- Segments of two worlds, partners in the same order, are copied to related stores, and trap in both or neither.
 use Rattle.base_lists.proofs.Common.{◌≡◌, ℕ, suc, List, ◌∷◌, length, Option, Some, None, Bool, false, refl, arith, slice_get, append_from, set_other, overwrite_rel, there, cond_two, then_rel, then_same_is, number_is, overwritten_length, overwrite_fits}
 use Rattle.wasm_tree_spec.specs.Prelude.{Space, ElementSegments, DataSegments, ConstExpr, ElemSeg, DataSeg, Module}
-use Rattle.wasm_meaning.specs.Prelude.{overwrite, no_items, no_bytes, RefVal, Val, Table, Memory, Inst, Store, Part, module_at, Environment, Filled, PlacedSegment, numbers, own_count, defined_before, insts_from, segments_in, placed_elems, placed_datas, or_trapped, copy_slots, run_elem_with, run_elem, copy_bytes, run_data_with, run_data, and_then, one_by_one}
+use Rattle.wasm_meaning.specs.Prelude.{overwrite, no_items, no_bytes, RefVal, Val, Table, Memory, Inst, Store, Part, module_at, Environment, Filled, PlacedSegment, numbers, own_count, defined_before, insts_from, segments_in, placed_elems, placed_datas, or_trapped, copy_slots, run_elem_with}
+use Rattle.wasm_meaning.specs.Prelude.{run_elem, copy_bytes, run_data_with, run_data, and_then, one_by_one}
 use Rattle.index_remap.specs.Prelude.{Pairing, OneToOne, OptRel, none, some, StoreRel, set_table, set_memory, drop_elem, drop_data, turned, HasNoPartner}
 use Rattle.index_remap.proofs.Rel.{written}
 use Rattle.index_remap.proofs.StepsAgree.{changed_rel}
@@ -164,7 +165,8 @@ module _ (R : Pairing) (apart : OneToOne R) (env : Environment) (v w : Instantia
         let k = c.1 (e 0 _ refl) p in
         rw k.0 (in_order r d (λ n. e (suc n)) s _ (assumption (kept_rel R like.related (nothing_kept _ s) k.1)))
 
-  pub elems_in_order : {xs ys : List (PlacedSegment ElemSeg)} → InOrder (λ x y. ElemsPartner R (values_in env v x.part) (values_in env w y.part) x y x.segment.mode y.segment.mode) (λ x. ElemAlone (HasNoPartner (turned R)) env v x x.segment.mode) (λ y. ElemAlone (HasNoPartner R) env w y y.segment.mode) xs ys →
+  pub elems_in_order : {xs ys : List (PlacedSegment ElemSeg)} →
+      InOrder (λ x y. ElemsPartner R (values_in env v x.part) (values_in env w y.part) x y x.segment.mode y.segment.mode) (λ x. ElemAlone (HasNoPartner (turned R)) env v x x.segment.mode) (λ y. ElemAlone (HasNoPartner R) env w y y.segment.mode) xs ys →
       Defines env v ElementSegments (λ m. m.elems) xs → Defines env w ElementSegments (λ m. m.elems) ys → (s z : Store) → Stores s z → FilledAlike (one_by_one (run_elem env v.parts v.insts) s xs) (one_by_one (run_elem env w.parts w.insts) z ys)
   elems_in_order = in_order (elems_run (turned R) env v) (elems_run R env w) (λ s z like x y p. elim p as (λ m n _. Related (run_elem_with (values_in env v x.part) s x m) (run_elem_with (values_in env w y.part) z y n)) [
     | segments.ElemsPartner.active e to same ↦
@@ -176,7 +178,8 @@ module _ (R : Pairing) (apart : OneToOne R) (env : Environment) (v w : Instantia
     | _ ↦ (like, refl)
   ])
 
-  pub datas_in_order : {xs ys : List (PlacedSegment DataSeg)} → InOrder (λ x y. DatasPartner R (values_in env v x.part) (values_in env w y.part) x y x.segment.mode y.segment.mode) (λ x. DataAlone (HasNoPartner (turned R)) env v x x.segment.mode) (λ y. DataAlone (HasNoPartner R) env w y y.segment.mode) xs ys →
+  pub datas_in_order : {xs ys : List (PlacedSegment DataSeg)} →
+      InOrder (λ x y. DatasPartner R (values_in env v x.part) (values_in env w y.part) x y x.segment.mode y.segment.mode) (λ x. DataAlone (HasNoPartner (turned R)) env v x x.segment.mode) (λ y. DataAlone (HasNoPartner R) env w y y.segment.mode) xs ys →
       Defines env v DataSegments (λ m. m.datas) xs → Defines env w DataSegments (λ m. m.datas) ys → (s z : Store) → Stores s z → FilledAlike (one_by_one (run_data env v.parts v.insts) s xs) (one_by_one (run_data env w.parts w.insts) z ys)
   datas_in_order = in_order (datas_run (turned R) env v) (datas_run R env w) (λ s z like x y p. elim p as (λ m n _. Related (run_data_with (values_in env v x.part) s x m) (run_data_with (values_in env w y.part) z y n)) [
     | segments.DatasPartner.active {d = d} e to same ↦

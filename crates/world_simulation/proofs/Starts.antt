@@ -2,7 +2,8 @@
 use Rattle.base_lists.proofs.Common.{◌≡◌, ℕ, ◌+◌, List, [], ◌∷◌, ◌++◌, Some, map, refl, add-zero, slice_get, option_map_is, cond_two, each_rel}
 use Rattle.wasm_tree.specs.declared.instr.Instr.{out-Instr}
 use Rattle.wasm_tree.specs.declared.instr.Instr.TheVariants as i
-use Rattle.wasm_meaning.specs.Prelude.{Gives, Inst, Func, Code, Own, Placeholder, Store, Entry, Running, Opening, Waiting, type_of_func, enter, Environment, Begun, Phase, Pending, Move, Run, Out, run_after, tick, events_of, IsPrefix, fresh_run, GivesNothing, a_frame, a_call, AgreeOnFrames, ended, trapped, StartDependsOnlyOnItsFrames}
+use Rattle.wasm_meaning.specs.Prelude.{Gives, Inst, Func, Code, Own, Placeholder, Store, Entry, Running, Opening, Waiting, type_of_func, enter, Environment, Begun, Phase, Pending, Move, Run, Out, run_after, tick, events_of, IsPrefix, fresh_run, GivesNothing, a_frame, a_call, AgreeOnFrames, ended}
+use Rattle.wasm_meaning.specs.Prelude.{trapped, StartDependsOnlyOnItsFrames}
 use Rattle.wasm_meaning.specs.StartFrames.{goes_on}
 use Rattle.index_remap.specs.Prelude.{ListRel, nil, cons}
 use Rattle.world_simulation.specs.Starts.{from_nothing_to_nothing, NamesStart, CallsEach}

@@ -92,7 +92,8 @@ module _ (R : Pairing) where
   module _ (env : Environment) (v w : Instantiated) (shares : SharesOwn R env) (defs : DefinitionsCorrespond R env v w) (s z : Store)
       (s_is : stores_from env v.parts v.insts (own_store env) 0 v.parts v.insts ≡ Some s) (z_is : stores_from env w.parts w.insts (own_store env) 0 w.parts w.insts ≡ Some z) where
     -- what stands at the addresses of partners: the environment's own entities are as it has them
-    stand : {k : Space} {A B : Type 0} {definitions : Module → List A} {correspond : ℕ → Inst → A → ℕ → Inst → A → Type 0} {P : B → B → Type 0} {get : Store → List B} → Allocates k get → ListRel P (get (own_store env)) (get (own_store env)) → {a b : ℕ} → Partners env v w k definitions correspond a b →
+    stand : {k : Space} {A B : Type 0} {definitions : Module → List A} {correspond : ℕ → Inst → A → ℕ → Inst → A → Type 0} {P : B → B → Type 0} {get : Store → List B} → Allocates k get → ListRel P (get (own_store env)) (get (own_store env)) → {a b : ℕ} →
+        Partners env v w k definitions correspond a b →
         ((d : DefinedAt env v k definitions a) (e : DefinedAt env w k definitions b) → correspond d.part d.inst d.definition e.part e.inst e.definition → BothRel P (slice_get (get s) a) (slice_get (get z) b)) → BothRel P (slice_get (get s) a) (slice_get (get z) b)
     stand {get = get} allocates rel {a} (partners.own same low) at_defined =
         let x = slice_get_there (get (own_store env)) a (rw (allocates.own env) low) in

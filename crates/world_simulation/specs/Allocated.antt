@@ -3,7 +3,8 @@
 use Rattle.std.specs.Prelude.{◌≡◌, ℕ, List, ◌++◌, map, length, Option, Some, slice_get}
 use Rattle.wasm_tree_spec.specs.Prelude.{Space, Functions, Tables, Memories, Globals, ElementSegments, DataSegments, ConstExpr, GlobalDef, ElemSeg, Module}
 use Rattle.wasm_tree.specs.declared.module.Func as tree
-use Rattle.wasm_meaning.specs.Prelude.{Val, Inst, Func, Global, Elem, Store, Part, Environment, own_count, own_store, defined_count, all_there, new_func, new_global, global_with, elem_of, elem_with, value_of, part_store, joined_stores, stores_from}
+use Rattle.wasm_meaning.specs.Prelude.{Val, Inst, Func, Global, Elem, Store, Part, Environment, own_count, own_store, defined_count, all_there, new_func, new_global, global_with, elem_of, elem_with}
+use Rattle.wasm_meaning.specs.Prelude.{value_of, part_store, joined_stores, stores_from}
 use Rattle.world_simulation.specs.Definitions.{Instantiated, DefinedAt}
 use Rattle.world_simulation.specs.NewContents.{new_table, new_memory, new_data}
 

@@ -5,7 +5,8 @@ use Rattle.wasm_tree_spec.specs.Prelude.{Space, Globals, FuncType, Import, Impor
 use Rattle.base_lists.specs.Options.{◌>>=◌}
 use Rattle.wasm_tree.specs.declared.module.ImportDesc.TheVariants as im
 use Rattle.wasm_tree.specs.declared.module.ConstExpr.TheVariants as const
-use Rattle.wasm_meaning.specs.Prelude.{Pair, Part, Site, Outside, Read, places, has_kind, pair_of, end_of, read_of, space_index, Environment, ExternalValue, OwnKey, FuncKey, TableKey, MemoryKey, GlobalKey, owned_of, owned_at, imported_external_value, address_of, all_there, numbers, own_count, defined_count, space}
+use Rattle.wasm_meaning.specs.Prelude.{Pair, Part, Site, Outside, Read, places, has_kind, pair_of, end_of, read_of, space_index, Environment, ExternalValue, OwnKey, FuncKey, TableKey, MemoryKey}
+use Rattle.wasm_meaning.specs.Prelude.{GlobalKey, owned_of, owned_at, imported_external_value, address_of, all_there, numbers, own_count, defined_count, space}
 
 abbrev pub one : Module → List Part
 one t = record { name = None; «module» = t } ∷ []

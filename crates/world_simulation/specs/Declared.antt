@@ -35,4 +35,5 @@ DeclaringAddsASegment = (m : Module) (fs : List ℕ) → IsWithDeclared m (with_
 -- functions as the module has.
 abbrev pub DeclaringSegmentsAreAllocated : Type 0
 DeclaringSegmentsAreAllocated =
-    (env : Environment) (u : Module) (j : Inst) (m : Module) → length j.funcs ≡ length (funcs_of m) → (es : List Elem) × (all_there (elem_of env (one u) (j ∷ []) 0) (last_segments (declared_refs m)) ≡ Some es)
+    (env : Environment) (u : Module) (j : Inst) (m : Module) → length j.funcs ≡ length (funcs_of m) →
+    (es : List Elem) × (all_there (elem_of env (one u) (j ∷ []) 0) (last_segments (declared_refs m)) ≡ Some es)

@@ -70,7 +70,8 @@ pub record ElemsAlike (R : Pairing) (value second_value : ConstExpr → Option V
 -- that correspond, in their parts and instances
 pub data Partners (env : Environment) (v w : Instantiated) (k : Space) {A : Type 0} (definitions : Module → List A) (correspond : ℕ → Inst → A → ℕ → Inst → A → Type 0) (a b : ℕ) : Type 0 where
   own : a ≡ b → a < own_count k env → Partners env v w k definitions correspond a b
-  defined : (x : DefinedAt env v k definitions a) (y : DefinedAt env w k definitions b) → correspond x.part x.inst x.definition y.part y.inst y.definition → Partners env v w k definitions correspond a b
+  defined : (x : DefinedAt env v k definitions a) (y : DefinedAt env w k definitions b) → correspond x.part x.inst x.definition y.part y.inst y.definition →
+      Partners env v w k definitions correspond a b
 
 -- related addresses have partners: functions, globals and element segments that correspond (of
 -- opaque functions only the types), tables and memories of equal types, data segments of equal

@@ -3,7 +3,8 @@
 use Rattle.std.specs.Prelude.{◌≡◌, ℕ, ◌+◌, ◌<◌, List, ◌++◌, length, Option, Some, slice_get}
 use Rattle.base_lists.specs.Options.{◌>>=◌}
 use Rattle.wasm_tree_spec.specs.Prelude.{Space, Functions, Tables, Memories, Globals, DataSegments, ElementSegments, Module}
-use Rattle.wasm_meaning.specs.Prelude.{Inst, Part, module_at, imports_of, Environment, space, numbers, inst_of, insts_from, defined_before, defined_count, base, address_of, all_there, imported_external_value}
+use Rattle.wasm_meaning.specs.Prelude.{Inst, Part, module_at, imports_of, Environment, space, numbers, inst_of, insts_from, defined_before, defined_count, base, address_of, all_there}
+use Rattle.wasm_meaning.specs.Prelude.{imported_external_value}
 
 -- ---- an index space ----
 
@@ -49,7 +50,8 @@ abbrev pub SpacesAreImportsAndDefinitions : Type 0
 SpacesAreImportsAndDefinitions = (env : Environment) (parts : List Part) (k : Space) (p : ℕ) (m : Module) (xs : List ℕ) → space env parts k p m ≡ Some xs → IsSpace env parts k p m xs
 
 abbrev pub IndicesNameImportsOrDefinitions : Type 0
-IndicesNameImportsOrDefinitions = (env : Environment) (parts : List Part) (k : Space) (p : ℕ) (m : Module) (xs : List ℕ) → IsSpace env parts k p m xs → (x a : ℕ) → slice_get xs x ≡ Some a → SpaceEntry env parts k p m x a
+IndicesNameImportsOrDefinitions = (env : Environment) (parts : List Part) (k : Space) (p : ℕ) (m : Module) (xs : List ℕ) → IsSpace env parts k p m xs → (x a : ℕ) → slice_get xs x ≡ Some a →
+    SpaceEntry env parts k p m x a
 
 abbrev pub EachPartHasAnInstance : Type 0
 EachPartHasAnInstance = (env : Environment) (all : List Part) (p : ℕ) (parts : List Part) (is : List Inst) → insts_from env all p parts ≡ Some is → EachInst env all p parts is

@@ -3,11 +3,14 @@ pub use Rattle.world_simulation.specs.Alone.{addresses, external_value_in, impor
 pub use Rattle.world_simulation.specs.Allocated.{Adds, AddsWith, AllocatedStoresHaveDefinitions, Allocates, HasDefinitions, PartsAddWhatCanBeAllocated, added_store}
 pub use Rattle.world_simulation.specs.ByPart.{DatasAreListedByPart, ElemsAreListedByPart, segments_by_part}
 pub use Rattle.world_simulation.specs.Declared.{DeclaringAddsASegment, DeclaringSegmentsAreAllocated, IsWithDeclared, last_segments}
-pub use Rattle.world_simulation.specs.Definitions.{DefinedAt, DefinitionsCorrespond, ElemsAlike, ElemsCorrespond, FuncsAt, FuncsCorrespond, GlobalsCorrespond, Instantiated, Partners, is_declarative, values_in}
-pub use Rattle.world_simulation.specs.IndexSpaces.{EachInst, EachPartHasAnInstance, SpaceEntry, IndicesNameImportsOrDefinitions, IsInst, IsSpace, SpacesAreImportsAndDefinitions, defines, import_address, imports}
+pub use Rattle.world_simulation.specs.Definitions.{DefinedAt, DefinitionsCorrespond, ElemsAlike, ElemsCorrespond, FuncsAt, FuncsCorrespond, GlobalsCorrespond, Instantiated, Partners, is_declarative}
+pub use Rattle.world_simulation.specs.Definitions.{values_in}
+pub use Rattle.world_simulation.specs.IndexSpaces.{EachInst, EachPartHasAnInstance, SpaceEntry, IndicesNameImportsOrDefinitions, IsInst, IsSpace, SpacesAreImportsAndDefinitions, defines}
+pub use Rattle.world_simulation.specs.IndexSpaces.{import_address, imports}
 pub use Rattle.world_simulation.specs.Instances.{RelatedBegunHaveEqualTraces}
 pub use Rattle.world_simulation.specs.Named.{EntriesName}
 pub use Rattle.world_simulation.specs.NewContents.{new_data, new_memory, new_table}
 pub use Rattle.world_simulation.specs.Owned.{OwnCorrespond, OwnEntitiesCorrespond, SharesOwn, SpaceAt}
-pub use Rattle.world_simulation.specs.Segments.{DataAlone, DatasInOrder, DatasPartner, ElemAlone, ElemsInOrder, ElemsPartner, InOrder, RelatedStay, both, ends, in_first, in_second, offset_in, only_second}
+pub use Rattle.world_simulation.specs.Segments.{DataAlone, DatasInOrder, DatasPartner, ElemAlone, ElemsInOrder, ElemsPartner, InOrder, RelatedStay, both, ends, in_first, in_second, offset_in}
+pub use Rattle.world_simulation.specs.Segments.{only_second}
 pub use Rattle.world_simulation.specs.Simulation.{AreSimilar, IsInstantiated, StartsCorrespond, WhatIsInstantiated, WorldsCorrespond}

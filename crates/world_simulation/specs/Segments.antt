@@ -26,7 +26,8 @@ offset_in value e = value e >>= num_of W32
 -- Both are active and related, and are copied to related tables at equal offsets; or both are
 -- passive, or both declarative.
 pub data ElemsPartner (R : Pairing) (value second_value : ConstExpr → Option Val) (x y : PlacedSegment ElemSeg) : ElemMode → ElemMode → Type 0 where
-  active : {t u : ℕ} {d e : ConstExpr} → R.of ElementSegments x.address y.address → OptRel (R.of Tables) (slice_get x.inst.tables t) (slice_get y.inst.tables u) → offset_in value d ≡ offset_in second_value e → ElemsPartner R value second_value x y (elem.Active t d) (elem.Active u e)
+  active : {t u : ℕ} {d e : ConstExpr} → R.of ElementSegments x.address y.address → OptRel (R.of Tables) (slice_get x.inst.tables t) (slice_get y.inst.tables u) →
+      offset_in value d ≡ offset_in second_value e → ElemsPartner R value second_value x y (elem.Active t d) (elem.Active u e)
   passive : ElemsPartner R value second_value x y elem.Passive elem.Passive
   declarative : ElemsPartner R value second_value x y elem.Declarative elem.Declarative
 
@@ -42,7 +43,8 @@ pub data ElemAlone (alone : Space → ℕ → Type 0) (env : Environment) (w : I
 
 -- the same for data segments, which are not declarative
 pub data DatasPartner (R : Pairing) (value second_value : ConstExpr → Option Val) (x y : PlacedSegment DataSeg) : DataMode → DataMode → Type 0 where
-  active : {t u : ℕ} {d e : ConstExpr} → R.of DataSegments x.address y.address → OptRel (R.of Memories) (slice_get x.inst.mems t) (slice_get y.inst.mems u) → offset_in value d ≡ offset_in second_value e → DatasPartner R value second_value x y (data'.Active t d) (data'.Active u e)
+  active : {t u : ℕ} {d e : ConstExpr} → R.of DataSegments x.address y.address → OptRel (R.of Memories) (slice_get x.inst.mems t) (slice_get y.inst.mems u) →
+      offset_in value d ≡ offset_in second_value e → DatasPartner R value second_value x y (data'.Active t d) (data'.Active u e)
   passive : DatasPartner R value second_value x y data'.Passive data'.Passive
 
 -- the same for data segments and memories
@@ -55,12 +57,14 @@ pub data DataAlone (alone : Space → ℕ → Type 0) (env : Environment) (w : I
 
 abbrev pub ElemsInOrder : Pairing → Environment → Instantiated → Instantiated → Type 0
 ElemsInOrder R env v w =
-    InOrder (λ x y. ElemsPartner R (values_in env v x.part) (values_in env w y.part) x y x.segment.mode y.segment.mode) (λ x. ElemAlone (HasNoPartner (turned R)) env v x x.segment.mode) (λ y. ElemAlone (HasNoPartner R) env w y y.segment.mode)
+    InOrder (λ x y. ElemsPartner R (values_in env v x.part) (values_in env w y.part) x y x.segment.mode y.segment.mode) (λ x. ElemAlone (HasNoPartner (turned R)) env v x x.segment.mode)
+        (λ y. ElemAlone (HasNoPartner R) env w y y.segment.mode)
     (placed_elems 0 v.parts v.insts) (placed_elems 0 w.parts w.insts)
 
 abbrev pub DatasInOrder : Pairing → Environment → Instantiated → Instantiated → Type 0
 DatasInOrder R env v w =
-    InOrder (λ x y. DatasPartner R (values_in env v x.part) (values_in env w y.part) x y x.segment.mode y.segment.mode) (λ x. DataAlone (HasNoPartner (turned R)) env v x x.segment.mode) (λ y. DataAlone (HasNoPartner R) env w y y.segment.mode)
+    InOrder (λ x y. DatasPartner R (values_in env v x.part) (values_in env w y.part) x y x.segment.mode y.segment.mode) (λ x. DataAlone (HasNoPartner (turned R)) env v x x.segment.mode)
+        (λ y. DataAlone (HasNoPartner R) env w y y.segment.mode)
     (placed_datas 0 v.parts v.insts) (placed_datas 0 w.parts w.insts)
 
 -- ---- what is kept where a segment without a partner is copied ----

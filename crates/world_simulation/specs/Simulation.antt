@@ -3,7 +3,8 @@
 -- environment links both or neither.
 use Rattle.std.specs.Prelude.{◌≡◌, ℕ, Bool, List, [], Some, true}
 use Rattle.wasm_tree_spec.specs.Prelude.{Space, Functions}
-use Rattle.wasm_meaning.specs.Prelude.{Inst, Store, Text, Environment, ExternalValue, all_of, sites, World, Begun, insts_from, stores_from, own_store, all_there, seen_as, starts_of, is_matched, segments, begun, instantiate, links, Move, events}
+use Rattle.wasm_meaning.specs.Prelude.{Inst, Store, Text, Environment, ExternalValue, all_of, sites, World, Begun, insts_from, stores_from, own_store, all_there, seen_as, starts_of, is_matched}
+use Rattle.wasm_meaning.specs.Prelude.{segments, begun, instantiate, links, Move, events}
 use Rattle.index_remap.specs.Prelude.{Pairing, OneToOne, OptRel, ListRel, StoreRel, KeyRel, BegunRel, passed, EntryByEntry}
 use Rattle.world_simulation.specs.Owned.{SharesOwn}
 use Rattle.world_simulation.specs.Definitions.{Instantiated, DefinitionsCorrespond}
@@ -48,7 +49,8 @@ AreSimilar R env v w = (is js : List Inst) → insts_from env v.parts 0 v.parts 
 
 -- with such instances, related functions are started, in the same order
 abbrev pub StartsCorrespond : Pairing → Environment → World → World → Type 0
-StartsCorrespond R env v w = (is js : List Inst) → insts_from env v.parts 0 v.parts ≡ Some is → insts_from env w.parts 0 w.parts ≡ Some js → ListRel (R.of Functions) (starts_of v.parts is) (starts_of w.parts js)
+StartsCorrespond R env v w = (is js : List Inst) → insts_from env v.parts 0 v.parts ≡ Some is → insts_from env w.parts 0 w.parts ≡ Some js →
+    ListRel (R.of Functions) (starts_of v.parts is) (starts_of w.parts js)
 
 -- ---- the laws ----
 
@@ -60,7 +62,8 @@ BegunRelated R = BegunRel R (λ s t es fs. Unit {0})
 -- Before segments are copied, the allocated stores are related, whichever functions are opaque.
 abbrev pub AllocatedStoresCorrespond : Type 0
 AllocatedStoresCorrespond =
-    (of named : Space → ℕ → ℕ → Bool) (l : List ℕ) (env : Environment) (v w : World) (is js : List Inst) (s z : Store) → SharesOwn (passed of named l) env → DefinitionsCorrespond (passed of named l) env (in_world v is) (in_world w js) →
+    (of named : Space → ℕ → ℕ → Bool) (l : List ℕ) (env : Environment) (v w : World) (is js : List Inst) (s z : Store) → SharesOwn (passed of named l) env →
+    DefinitionsCorrespond (passed of named l) env (in_world v is) (in_world w js) →
     stores_from env v.parts is (own_store env) 0 v.parts is ≡ Some s → stores_from env w.parts js (own_store env) 0 w.parts js ≡ Some z → StoreRel (passed of named l) s z
 
 -- If both are instantiated, the results correspond, except for what they start, whichever functions
@@ -74,10 +77,12 @@ CorrespondingWorldsBeginRelated =
 -- traces are equal, step by step.
 abbrev pub CorrespondingWorldsAreInstantiatedRelated : Type 0
 CorrespondingWorldsAreInstantiatedRelated =
-    (of : Space → ℕ → ℕ → Bool) → OneToOne (passed of of []) → (env : Environment) (v w : World) → links env v ≡ links env w → AreSimilar (passed of of []) env v w → StartsCorrespond (passed of of []) env v w →
+    (of : Space → ℕ → ℕ → Bool) → OneToOne (passed of of []) → (env : Environment) (v w : World) → links env v ≡ links env w → AreSimilar (passed of of []) env v w →
+    StartsCorrespond (passed of of []) env v w →
     OptRel (BegunRel (passed of of []) (EntryByEntry (passed of of []))) (instantiate env v) (instantiate env w)
 
 abbrev pub CorrespondingWorldsHaveEqualTraces : Type 0
 CorrespondingWorldsHaveEqualTraces =
-    (of : Space → ℕ → ℕ → Bool) → OneToOne (passed of of []) → (env : Environment) (v w : World) → links env v ≡ links env w → AreSimilar (passed of of []) env v w → StartsCorrespond (passed of of []) env v w →
+    (of : Space → ℕ → ℕ → Bool) → OneToOne (passed of of []) → (env : Environment) (v w : World) → links env v ≡ links env w → AreSimilar (passed of of []) env v w →
+    StartsCorrespond (passed of of []) env v w →
     (moves : List Move) (n : ℕ) → events v env moves n ≡ events w env moves n

@@ -15,6 +15,7 @@ pub returns : goal.returns
 returns c =
     let spaces = c.index_spaces_list_imports_and_definitions.ensures in
     record {
-      equivalent = turns_not_seen c.valid_where_items_hold.ensures c.start_depends_only_on_its_frames.ensures.own_frames (extension c) c.steps_agree.ensures.reflexive c.related_runs_have_equal_traces.ensures.steps c.related_runs_have_equal_traces.ensures.unrelated c.own_entities_correspond.ensures.own c.linked_imports_have_ends.ensures.sites
+      equivalent = turns_not_seen c.valid_where_items_hold.ensures c.start_depends_only_on_its_frames.ensures.own_frames (extension c) c.steps_agree.ensures.reflexive c.related_runs_have_equal_traces.ensures.steps c.related_runs_have_equal_traces.ensures.unrelated
+          c.own_entities_correspond.ensures.own c.linked_imports_have_ends.ensures.sites
           spaces.instances spaces.spaces spaces.indices c.allocated_stores_have_what_parts_define.ensures.placed c.definitions_are_counted_by_part.ensures.next c.found_exports_are_there.ensures.there;
     }

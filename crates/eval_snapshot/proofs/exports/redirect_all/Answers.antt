@@ -25,7 +25,8 @@ loop-at-preserved c =
             stay = λ evaluated kept h.
                 let f = redirected evaluated c.args.empty in
                 let at : Some x ≡ slice_get xs i = w.in-Some.ensures.value ∙ ap (λ ys. slice_get ys i) (inv.redirected evaluated kept h) ∙ part_at f xs i in
-                w.marks-is ∙ (w.in_ok-keep.ensures.ok ∙ (ap₂ (λ ms b. ms ++ b ∷ []) (inv.stay evaluated kept h) (w.redirect.ensures.stays evaluated kept h) ∙ sym (mapped_more (stays evaluated kept) xs i x (subst (λ n. i < n) c.len-at-end.ensures c.loop-at-test.true) (sym (get_or_from_slice_get xs i x x (sym at))))));
+                w.marks-is ∙ (w.in_ok-keep.ensures.ok ∙ (ap₂ (λ ms b. ms ++ b ∷ []) (inv.stay evaluated kept h) (w.redirect.ensures.stays evaluated kept h) ∙
+                sym (mapped_more (stays evaluated kept) xs i x (subst (λ n. i < n) c.len-at-end.ensures c.loop-at-test.true) (sym (get_or_from_slice_get xs i x x (sym at))))));
           }
       | in_default w ↦ absurd (let size = inv.size in let before = c.loop-at-test.true in let long = c.len-at-end.ensures in omega (arith, size, before, long, none_past c.loop-at.exports i w.in_default.ensures.value))
     ]

@@ -2,7 +2,8 @@ use Rattle.std.proofs.Common.{◌≡◌, ◌≤◌, Some, slice_get, slice_index
 use denote.Param.Weighed.{most}
 use Rattle.base_lists.proofs.Each.{list_all_each}
 use Rattle.base_lists.proofs.Walk.{part_at, part_more, most_at, none_past}
-use Rattle.wasm_tree_spec.specs.Prelude.{Call, CallIndirect, GlobalGet, GlobalSet, TableGet, TableSet, Load, Store, MemorySize, MemoryGrow, RefFunc, MemoryInit, DataDrop, MemoryCopy, MemoryFill, TableInit, ElemDrop, TableCopy, TableGrow, TableSize, TableFill, Types, Functions, Tables, Memories, Globals, ElementSegments, DataSegments}
+use Rattle.wasm_tree_spec.specs.Prelude.{Call, CallIndirect, GlobalGet, GlobalSet, TableGet, TableSet, Load, Store, MemorySize, MemoryGrow, RefFunc, MemoryInit, DataDrop, MemoryCopy, MemoryFill, TableInit, ElemDrop, TableCopy, TableGrow, TableSize, TableFill, Types, Functions, Tables, Memories}
+use Rattle.wasm_tree_spec.specs.Prelude.{Globals, ElementSegments, DataSegments}
 use Rattle.wasm_tree.specs.declared.instr.Instr.{out-Instr, the_lemmas}
 use Rattle.wasm_tree.proofs.instr.Instr.TheLaws.{the_size}
 use Rattle.index_remap.proofs.Fits.{layer, renewed, fits_one, fits_first, fits_second, fits_arg, fits_block, fits_block_type, fits_loop, fits_loop_type, fits_then, fits_else, fits_if_type}

@@ -29,7 +29,8 @@ loop-import-preserved c =
     let within : n < length m.imports = omega (arith, c.len-import-end.ensures) in
     record {
       row_is = c.in_ok-keep.ensures.ok ∙ ap (λ r. r ++ c.next_place.result ∷ []) i.row_is
-          ∙ ap (λ e. map (staying_place ps k) (sites_in p n 0) ++ e ∷ []) (c.next_place.ensures.place ∙ ap (λ (b : Bool). cond b (Some c.loop-import.count) None) c.is_picked-taken.ensures ∙ ap (λ x. cond (picked ps k (site p n)) (Some x) None) i.count_is ∙ sym (staying_place_is ps k p n m c.module_of.ensures.at within))
+          ∙ ap (λ e. map (staying_place ps k) (sites_in p n 0) ++ e ∷ []) (c.next_place.ensures.place ∙ ap (λ (b : Bool). cond b (Some c.loop-import.count) None) c.is_picked-taken.ensures ∙ ap (λ x. cond (picked ps k (site p n)) (Some x) None) i.count_is ∙
+          sym (staying_place_is ps k p n m c.module_of.ensures.at within))
           ∙ sym (ap (map (staying_place ps k)) (sites_in_more p n) ∙ map_push (staying_place ps k) (sites_in p n 0) (site p n));
       count_is = c.next_place.ensures.count ∙ ap (λ (b : Bool). c.loop-import.count + cond b 1 0) c.is_picked-taken.ensures ∙ ap (λ x. x + cond (picked ps k (site p n)) 1 0) i.count_is ∙ sym (count_more ps k p n);
     }

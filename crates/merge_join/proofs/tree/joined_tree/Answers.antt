@@ -27,7 +27,8 @@ declare_references-requires c =
     let many : length lent ≡ length (all_exports ps) = ap length c.as_slice-2.ensures ∙ c.in_ok-names.ensures.many ∙ ap (λ (xs : List parts.Part). length (all_exports (named_modules xs))) c.as_slice.ensures in
     record {
       few = c.in_ok-module.ensures.few;
-      kept = λ le. none_undeclared c.operands_pass_layer_by_layer.ensures.inside c.operands_are_mapped.ensures.code ps lent c.in_ok-module.module c.declared_trees_are_valid.ensures.stays c.maps_have_entries.ensures.entries c.requires.linked.hold c.in_ok-module.ensures.is many (omega (arith, le, c.len.ensures, ap length c.as_slice-2.ensures));
+      kept = λ le. none_undeclared c.operands_pass_layer_by_layer.ensures.inside c.operands_are_mapped.ensures.code ps lent c.in_ok-module.module c.declared_trees_are_valid.ensures.stays c.maps_have_entries.ensures.entries c.requires.linked.hold c.in_ok-module.ensures.is many
+          (omega (arith, le, c.len.ensures, ap length c.as_slice-2.ensures));
     }
 
 pub returns-in-Some-clause-fault : goal.returns-in-Some-clause-fault

@@ -8,7 +8,8 @@ use Rattle.tools_cli.proofs.top.run.Goals as goal
 
 pub returns-in-Ok-clause-faithful : goal.returns-in-Ok-clause-faithful
 returns-in-Ok-clause-faithful g c is =
-    end_is_faithful c.done_jobs_are_faithful.ensures.faithful (g.F.Files.contents c.args.files.now) (g.F.Files.contents c.run_command.new.files) (map string_bytes c.args.words.now) (g.O.Sink.bytes c.args.out.now) (g.O.Sink.bytes c.run_command.new.out) (λ split asked. strings_are_text c.args.words.now) c.in-Ok.ensures.bytes c.in-Ok.ensures.done
+    end_is_faithful c.done_jobs_are_faithful.ensures.faithful (g.F.Files.contents c.args.files.now) (g.F.Files.contents c.run_command.new.files) (map string_bytes c.args.words.now) (g.O.Sink.bytes c.args.out.now) (g.O.Sink.bytes c.run_command.new.out)
+    (λ split asked. strings_are_text c.args.words.now) c.in-Ok.ensures.bytes c.in-Ok.ensures.done
 
 pub returns-in-Ok-clause-says : goal.returns-in-Ok-clause-says
 returns-in-Ok-clause-says g c = says_nothing _

@@ -11,4 +11,5 @@ pub returns-in-Err-NotModule-clause-list : goal.returns-in-Err-NotModule-clause-
 returns-in-Err-NotModule-clause-list c = rw c.new.ensures (none_without_header c.args.bytes.now ((c.framing_is_decided.ensures.not_module c.args.bytes.now (λ i. omega (arith, c.type_inv.bytes i))).1 (c.in-Err-NotModule.ensures.not_module.0 (ap Err c.in-Err-NotModule.field-0-is))))
 
 pub returns-in-Err-BadFrame-clause-list : goal.returns-in-Err-BadFrame-clause-list
-returns-in-Err-BadFrame-clause-list c = rw c.new-in-Err-BadFrame.ensures (none_in_bad_frames c.args.bytes.now c.in-Err-BadFrame.field-0-0 ((c.framing_is_decided.ensures.bad c.args.bytes.now c.in-Err-BadFrame.field-0-0 (λ i. omega (arith, c.type_inv.bytes i))).1 (c.in-Err-BadFrame.ensures.bad c.in-Err-BadFrame.field-0-0 (ap Err c.in-Err-BadFrame.field-0-is))))
+returns-in-Err-BadFrame-clause-list c = rw c.new-in-Err-BadFrame.ensures (none_in_bad_frames c.args.bytes.now c.in-Err-BadFrame.field-0-0
+    ((c.framing_is_decided.ensures.bad c.args.bytes.now c.in-Err-BadFrame.field-0-0 (λ i. omega (arith, c.type_inv.bytes i))).1 (c.in-Err-BadFrame.ensures.bad c.in-Err-BadFrame.field-0-0 (ap Err c.in-Err-BadFrame.field-0-is))))

@@ -23,7 +23,8 @@ returns-in_err-code-clause-gives c =
 pub loop-i-preserved : goal.loop-i-preserved
 loop-i-preserved c =
     let l = c.loop-i in record {
-      reads = each_more (entry_at c.args.many c.args.section) next_func _ c.args.count l._i l.func (map code_in l.codes) (map code_in c.keep.new.self) (code_in c.in_ok-code.code) l.cursor c.read_entry.new.cursor c.loop-i-test.true c.in_ok-code.ensures.gives (more l.codes c.in_ok-code.code c.keep.new.self c.in_ok-keep.ensures.ok) l.invariant.reads;
+      reads = each_more (entry_at c.args.many c.args.section) next_func _ c.args.count l._i l.func (map code_in l.codes) (map code_in c.keep.new.self) (code_in c.in_ok-code.code) l.cursor c.read_entry.new.cursor c.loop-i-test.true c.in_ok-code.ensures.gives
+          (more l.codes c.in_ok-code.code c.keep.new.self c.in_ok-keep.ensures.ok) l.invariant.reads;
       no_types = one_more l.codes c.in_ok-code.code c.keep.new.self c.in_ok-keep.ensures.ok l.invariant.no_types c.in_ok-code.ensures.no_type;
       number = omega (arith, l.invariant.number);
       uses = rw (c.in_ok-keep.ensures.ok) (any_more (λ (f : Func). uses_data f.body) c.args.pile.now.uses_data l.pile.uses_data _ l.codes c.in_ok-code.code l.invariant.uses c.in_ok-code.ensures.uses);

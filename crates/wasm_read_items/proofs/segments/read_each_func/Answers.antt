@@ -12,6 +12,7 @@ returns-in_err-read_func_item-clause-gives c =
 pub loop-i-preserved : goal.loop-i-preserved
 loop-i-preserved c =
     let l = c.loop-i in record {
-      reads = each_more (λ s. func_item_at) (λ s x. 0) (each_at func_item_at c.args.count c.args.cursor.now) c.args.count l._i 0 l.items c.keep.new.self c.in_ok-read_func_item.field-0 l.cursor c.read_func_item.new.cursor c.loop-i-test.true c.in_ok-read_func_item.ensures.gives c.in_ok-keep.ensures.ok l.invariant.reads;
+      reads = each_more (λ s. func_item_at) (λ s x. 0) (each_at func_item_at c.args.count c.args.cursor.now) c.args.count l._i 0 l.items c.keep.new.self c.in_ok-read_func_item.field-0 l.cursor c.read_func_item.new.cursor c.loop-i-test.true c.in_ok-read_func_item.ensures.gives
+          c.in_ok-keep.ensures.ok l.invariant.reads;
       left = omega (arith, c.in_ok-read_func_item.ensures.shorter, l.invariant.left);
     }

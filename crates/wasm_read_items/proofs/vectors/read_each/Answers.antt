@@ -12,7 +12,8 @@ returns-in_err-read-clause-gives g c =
 pub loop-i-preserved : goal.loop-i-preserved
 loop-i-preserved g c =
     let l = c.loop-i in record {
-      reads = each_more (λ s. g.T.Spelled.reading) (λ s x. 0) (each_at g.T.Spelled.reading c.args.count c.args.cursor.now) c.args.count l._i 0 l.items c.keep.new.self c.in_ok-read.field-0 l.cursor c.read.new.cursor c.loop-i-test.true c.in_ok-read.ensures.gives c.in_ok-keep.ensures.ok l.invariant.reads;
+      reads = each_more (λ s. g.T.Spelled.reading) (λ s x. 0) (each_at g.T.Spelled.reading c.args.count c.args.cursor.now) c.args.count l._i 0 l.items c.keep.new.self c.in_ok-read.field-0 l.cursor c.read.new.cursor c.loop-i-test.true c.in_ok-read.ensures.gives c.in_ok-keep.ensures.ok
+          l.invariant.reads;
       count = rw (c.in_ok-keep.ensures.ok) (omega (arith, length-append l.items (c.in_ok-read.field-0 ∷ []), l.invariant.count));
       left = omega (arith, c.in_ok-read.ensures.shorter, l.invariant.left);
     }

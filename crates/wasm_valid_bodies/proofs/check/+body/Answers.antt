@@ -15,11 +15,13 @@ step-returns-then-not-branch-clause-typed t c =
 
 pub step-returns-then-not-branch-2-clause-typed : goal.step-returns-then-not-branch-2-clause-typed
 step-returns-then-not-branch-2-clause-typed t c =
-    loop_stopped (context_of c.args.scope.now (label_list c.args.labels.now)) _ _ c.in-Loop.body (signature c.in-Some-shape_of.shape) c.as_slice-body-in-Loop.result.now _ _ c.in-Some-shape_of.ensures c.as_slice-body-in-Loop.ensures _ c.in-Loop.is c.in_ok-is_well_typed-in-Loop.ensures.typed c.if-not-branch-2.true
+    loop_stopped (context_of c.args.scope.now (label_list c.args.labels.now)) _ _ c.in-Loop.body (signature c.in-Some-shape_of.shape) c.as_slice-body-in-Loop.result.now _ _ c.in-Some-shape_of.ensures c.as_slice-body-in-Loop.ensures _ c.in-Loop.is c.in_ok-is_well_typed-in-Loop.ensures.typed
+        c.if-not-branch-2.true
 
 pub step-returns-then-not-branch-3-clause-typed : goal.step-returns-then-not-branch-3-clause-typed
 step-returns-then-not-branch-3-clause-typed t c =
-    then_stopped (context_of c.args.scope.now (label_list c.args.labels.now)) _ _ c.in-If.body (signature c.in-Some-shape_of-2.shape) c.as_slice-body-in-If.result.now _ _ c.in-Some-shape_of-2.ensures c.as_slice-body-in-If.ensures c.in-If.other _ c.in-If.is c.in_ok-is_well_typed-in-If.ensures.typed c.if-not-branch-3.true
+    then_stopped (context_of c.args.scope.now (label_list c.args.labels.now)) _ _ c.in-If.body (signature c.in-Some-shape_of-2.shape) c.as_slice-body-in-If.result.now _ _ c.in-Some-shape_of-2.ensures c.as_slice-body-in-If.ensures c.in-If.other _ c.in-If.is c.in_ok-is_well_typed-in-If.ensures.typed
+        c.if-not-branch-3.true
 
 pub step-returns-then-not-branch-4-clause-typed : goal.step-returns-then-not-branch-4-clause-typed
 step-returns-then-not-branch-4-clause-typed t c =
@@ -31,24 +33,30 @@ step-returns-then-not-branch-4-clause-typed t c =
 pub step-returns-else-not-branch-clause-typed : goal.step-returns-else-not-branch-clause-typed
 step-returns-else-not-branch-clause-typed t c =
     let back = on_true _ _ c.in_ok-is_well_typed-in-Block.ensures.kept c.if-not-branch.false in
-    block_done (context_of c.args.scope.now (label_list c.args.labels.now)) _ _ c.in-Block.body (signature c.in-Some.shape) c.as_slice-body.result.now (stack_of c.args.kept.now) c.args.kept.now.any_below c.in-Some.ensures c.as_slice-body.ensures _ _ _ _ c.in-Block.is c.in_ok-is_well_typed-in-Block.ensures.typed c.if-not-branch.false
-    (answered (Some (Gives c.in-Some.shape.params.now c.in-Some.shape.results.now)) c.args.kept.now c.gives.new.self c.gives.result (after_block (Some (Gives c.in-Some.shape.params.now c.in-Some.shape.results.now)) c.args.kept.now c.is_well_typed.new.kept c.gives.new.self c.gives.result back c.gives.ensures))
+    block_done (context_of c.args.scope.now (label_list c.args.labels.now)) _ _ c.in-Block.body (signature c.in-Some.shape) c.as_slice-body.result.now (stack_of c.args.kept.now) c.args.kept.now.any_below c.in-Some.ensures c.as_slice-body.ensures _ _ _ _ c.in-Block.is
+        c.in_ok-is_well_typed-in-Block.ensures.typed c.if-not-branch.false
+    (answered (Some (Gives c.in-Some.shape.params.now c.in-Some.shape.results.now)) c.args.kept.now c.gives.new.self c.gives.result
+        (after_block (Some (Gives c.in-Some.shape.params.now c.in-Some.shape.results.now)) c.args.kept.now c.is_well_typed.new.kept c.gives.new.self c.gives.result back c.gives.ensures))
 
 pub step-returns-else-not-branch-clause-beneath : goal.step-returns-else-not-branch-clause-beneath
 step-returns-else-not-branch-clause-beneath t c =
     let back = on_true _ _ c.in_ok-is_well_typed-in-Block.ensures.kept c.if-not-branch.false in
-    undisturbed (Some (Gives c.in-Some.shape.params.now c.in-Some.shape.results.now)) c.args.kept.now c.gives.new.self c.gives.result (after_block (Some (Gives c.in-Some.shape.params.now c.in-Some.shape.results.now)) c.args.kept.now c.is_well_typed.new.kept c.gives.new.self c.gives.result back c.gives.ensures)
+    undisturbed (Some (Gives c.in-Some.shape.params.now c.in-Some.shape.results.now)) c.args.kept.now c.gives.new.self c.gives.result
+        (after_block (Some (Gives c.in-Some.shape.params.now c.in-Some.shape.results.now)) c.args.kept.now c.is_well_typed.new.kept c.gives.new.self c.gives.result back c.gives.ensures)
 
 pub step-returns-else-not-branch-2-clause-typed : goal.step-returns-else-not-branch-2-clause-typed
 step-returns-else-not-branch-2-clause-typed t c =
     let back = on_true _ _ c.in_ok-is_well_typed-in-Loop.ensures.kept c.if-not-branch-2.false in
-    loop_done (context_of c.args.scope.now (label_list c.args.labels.now)) _ _ c.in-Loop.body (signature c.in-Some-shape_of.shape) c.as_slice-body-in-Loop.result.now (stack_of c.args.kept.now) c.args.kept.now.any_below c.in-Some-shape_of.ensures c.as_slice-body-in-Loop.ensures _ _ _ _ c.in-Loop.is c.in_ok-is_well_typed-in-Loop.ensures.typed c.if-not-branch-2.false
-    (answered (Some (Gives c.in-Some-shape_of.shape.params.now c.in-Some-shape_of.shape.results.now)) c.args.kept.now c.gives-in-Loop.new.self c.gives-in-Loop.result (after_block (Some (Gives c.in-Some-shape_of.shape.params.now c.in-Some-shape_of.shape.results.now)) c.args.kept.now c.is_well_typed-in-Loop.new.kept c.gives-in-Loop.new.self c.gives-in-Loop.result back c.gives-in-Loop.ensures))
+    loop_done (context_of c.args.scope.now (label_list c.args.labels.now)) _ _ c.in-Loop.body (signature c.in-Some-shape_of.shape) c.as_slice-body-in-Loop.result.now (stack_of c.args.kept.now) c.args.kept.now.any_below c.in-Some-shape_of.ensures c.as_slice-body-in-Loop.ensures _ _ _ _ c.in-Loop.is
+        c.in_ok-is_well_typed-in-Loop.ensures.typed c.if-not-branch-2.false
+    (answered (Some (Gives c.in-Some-shape_of.shape.params.now c.in-Some-shape_of.shape.results.now)) c.args.kept.now c.gives-in-Loop.new.self c.gives-in-Loop.result
+        (after_block (Some (Gives c.in-Some-shape_of.shape.params.now c.in-Some-shape_of.shape.results.now)) c.args.kept.now c.is_well_typed-in-Loop.new.kept c.gives-in-Loop.new.self c.gives-in-Loop.result back c.gives-in-Loop.ensures))
 
 pub step-returns-else-not-branch-2-clause-beneath : goal.step-returns-else-not-branch-2-clause-beneath
 step-returns-else-not-branch-2-clause-beneath t c =
     let back = on_true _ _ c.in_ok-is_well_typed-in-Loop.ensures.kept c.if-not-branch-2.false in
-    undisturbed (Some (Gives c.in-Some-shape_of.shape.params.now c.in-Some-shape_of.shape.results.now)) c.args.kept.now c.gives-in-Loop.new.self c.gives-in-Loop.result (after_block (Some (Gives c.in-Some-shape_of.shape.params.now c.in-Some-shape_of.shape.results.now)) c.args.kept.now c.is_well_typed-in-Loop.new.kept c.gives-in-Loop.new.self c.gives-in-Loop.result back c.gives-in-Loop.ensures)
+    undisturbed (Some (Gives c.in-Some-shape_of.shape.params.now c.in-Some-shape_of.shape.results.now)) c.args.kept.now c.gives-in-Loop.new.self c.gives-in-Loop.result
+        (after_block (Some (Gives c.in-Some-shape_of.shape.params.now c.in-Some-shape_of.shape.results.now)) c.args.kept.now c.is_well_typed-in-Loop.new.kept c.gives-in-Loop.new.self c.gives-in-Loop.result back c.gives-in-Loop.ensures)
 
 pub step-returns-else-not-branch-4-clause-typed : goal.step-returns-else-not-branch-4-clause-typed
 step-returns-else-not-branch-4-clause-typed t c =
@@ -56,17 +64,21 @@ step-returns-else-not-branch-4-clause-typed t c =
     let same = on_true _ _ c.in_ok-is_well_typed-in-If.ensures.labels c.if-not-branch-3.false in
     let other = subst (λ ls. IsTrue c.in_ok-is_well_typed-in-If-2.field-0 ↔ WellTyped (context_of c.args.scope.now (shape.results ∷ ls)) c.as_slice-other.result.now shape.params shape.results) same c.in_ok-is_well_typed-in-If-2.ensures.typed in
     let back = back_again c.args.kept.now c.is_well_typed-in-If.new.kept c.is_well_typed-in-If-2.new.kept (on_true _ _ c.in_ok-is_well_typed-in-If.ensures.kept c.if-not-branch-3.false) (on_true _ _ c.in_ok-is_well_typed-in-If-2.ensures.kept c.if-not-branch-4.false) in
-    if_done (context_of c.args.scope.now (label_list c.args.labels.now)) _ _ c.in-If.body shape c.as_slice-body-in-If.result.now (stack_of c.args.kept.now) c.args.kept.now.any_below c.in-Some-shape_of-2.ensures c.as_slice-body-in-If.ensures c.in-If.other c.as_slice-other.result.now _ _ _ _ _ c.as_slice-other.ensures c.in-If.is c.in_ok-is_well_typed-in-If.ensures.typed c.if-not-branch-3.false other c.if-not-branch-4.false
-    (answered (Some (Gives (c.in-Some-shape_of-2.shape.params.now ++ I32 ∷ []) c.in-Some-shape_of-2.shape.results.now)) c.args.kept.now c.gives_over.new.self c.gives_over.result (after_block (Some (Gives (c.in-Some-shape_of-2.shape.params.now ++ I32 ∷ []) c.in-Some-shape_of-2.shape.results.now)) c.args.kept.now c.is_well_typed-in-If-2.new.kept c.gives_over.new.self c.gives_over.result back c.gives_over.ensures))
+    if_done (context_of c.args.scope.now (label_list c.args.labels.now)) _ _ c.in-If.body shape c.as_slice-body-in-If.result.now (stack_of c.args.kept.now) c.args.kept.now.any_below c.in-Some-shape_of-2.ensures c.as_slice-body-in-If.ensures c.in-If.other c.as_slice-other.result.now _ _ _ _ _
+        c.as_slice-other.ensures c.in-If.is c.in_ok-is_well_typed-in-If.ensures.typed c.if-not-branch-3.false other c.if-not-branch-4.false
+    (answered (Some (Gives (c.in-Some-shape_of-2.shape.params.now ++ I32 ∷ []) c.in-Some-shape_of-2.shape.results.now)) c.args.kept.now c.gives_over.new.self c.gives_over.result
+        (after_block (Some (Gives (c.in-Some-shape_of-2.shape.params.now ++ I32 ∷ []) c.in-Some-shape_of-2.shape.results.now)) c.args.kept.now c.is_well_typed-in-If-2.new.kept c.gives_over.new.self c.gives_over.result back c.gives_over.ensures))
 
 pub step-returns-else-not-branch-4-clause-beneath : goal.step-returns-else-not-branch-4-clause-beneath
 step-returns-else-not-branch-4-clause-beneath t c =
     let back = back_again c.args.kept.now c.is_well_typed-in-If.new.kept c.is_well_typed-in-If-2.new.kept (on_true _ _ c.in_ok-is_well_typed-in-If.ensures.kept c.if-not-branch-3.false) (on_true _ _ c.in_ok-is_well_typed-in-If-2.ensures.kept c.if-not-branch-4.false) in
-    undisturbed (Some (Gives (c.in-Some-shape_of-2.shape.params.now ++ I32 ∷ []) c.in-Some-shape_of-2.shape.results.now)) c.args.kept.now c.gives_over.new.self c.gives_over.result (after_block (Some (Gives (c.in-Some-shape_of-2.shape.params.now ++ I32 ∷ []) c.in-Some-shape_of-2.shape.results.now)) c.args.kept.now c.is_well_typed-in-If-2.new.kept c.gives_over.new.self c.gives_over.result back c.gives_over.ensures)
+    undisturbed (Some (Gives (c.in-Some-shape_of-2.shape.params.now ++ I32 ∷ []) c.in-Some-shape_of-2.shape.results.now)) c.args.kept.now c.gives_over.new.self c.gives_over.result
+        (after_block (Some (Gives (c.in-Some-shape_of-2.shape.params.now ++ I32 ∷ []) c.in-Some-shape_of-2.shape.results.now)) c.args.kept.now c.is_well_typed-in-If-2.new.kept c.gives_over.new.self c.gives_over.result back c.gives_over.ensures)
 
 pub step-returns-in_default : goal.step-returns-in_default
 step-returns-in_default t c = record {
-  typed = plain_done (context_of c.args.scope.now (label_list c.args.labels.now)) c.args.instr.now (stack_of c.args.kept.now) c.args.kept.now.any_below _ _ _ (is_plain c.args.instr.now c.in_default.not-Block c.in_default.not-Loop c.in_default.not-If) (answered (effect_of (context_of c.args.scope.now (label_list c.args.labels.now)) c.args.instr.now) c.args.kept.now c.plain.new.kept c.plain.result c.plain.ensures);
+  typed = plain_done (context_of c.args.scope.now (label_list c.args.labels.now)) c.args.instr.now (stack_of c.args.kept.now) c.args.kept.now.any_below _ _ _ (is_plain c.args.instr.now c.in_default.not-Block c.in_default.not-Loop c.in_default.not-If)
+      (answered (effect_of (context_of c.args.scope.now (label_list c.args.labels.now)) c.args.instr.now) c.args.kept.now c.plain.new.kept c.plain.result c.plain.ensures);
   labels = kept_so _ _ refl;
   beneath = undisturbed (effect_of (context_of c.args.scope.now (label_list c.args.labels.now)) c.args.instr.now) c.args.kept.now c.plain.new.kept c.plain.result c.plain.ensures;
 }

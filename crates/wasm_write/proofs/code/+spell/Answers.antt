@@ -17,7 +17,8 @@ spell_instrs-loop-instr-preserved g t c = record {
 }
 
 pub spell_instr-returns-in-Block-clause-range : goal.spell_instr-returns-in-Block-clause-range
-spell_instr-returns-in-Block-clause-range g t c = both_ok c.spell_block.result (λ body ty. ap in_range c.in-Block.ensures ∙ block_in_range c.operands_pass_layer_by_layer.ensures.blocks c.numbers_are_in_range_layer_by_layer.ensures c.in-Block.ty.now c.in-Block.body.now body ty) c.spell_block.ensures.body c.spell_block.ensures.ty
+spell_instr-returns-in-Block-clause-range g t c = both_ok c.spell_block.result (λ body ty. ap in_range c.in-Block.ensures ∙ block_in_range c.operands_pass_layer_by_layer.ensures.blocks c.numbers_are_in_range_layer_by_layer.ensures c.in-Block.ty.now c.in-Block.body.now body ty)
+    c.spell_block.ensures.body c.spell_block.ensures.ty
 
 pub spell_instr-returns-in-Block-clause-uses : goal.spell_instr-returns-in-Block-clause-uses
 spell_instr-returns-in-Block-clause-uses g t c =
@@ -37,10 +38,12 @@ spell_instr-returns-in_ok-spell_else-in-If-clause-uses g t c =
     held_uses c.operands_pass_layer_by_layer-in-If.ensures.any c.args.instr.now (Instr-F.If c.in-If.ty.now body other) layer c.in-If.ty.now _ _ c.spell_body.result refl (both_use c.spell_body.result body other _ _ _ c.in_ok-spell_else-in-If.ensures.uses c.spell_body.ensures.uses)
 
 pub spell_instr-returns-in-Loop-clause-range : goal.spell_instr-returns-in-Loop-clause-range
-spell_instr-returns-in-Loop-clause-range g t c = both_ok c.spell_block-in-Loop.result (λ body ty. ap in_range c.in-Loop.ensures ∙ loop_in_range c.operands_pass_layer_by_layer-in-Loop.ensures.loops c.numbers_are_in_range_layer_by_layer-in-Loop.ensures c.in-Loop.ty.now c.in-Loop.body.now body ty) c.spell_block-in-Loop.ensures.body c.spell_block-in-Loop.ensures.ty
+spell_instr-returns-in-Loop-clause-range g t c = both_ok c.spell_block-in-Loop.result (λ body ty. ap in_range c.in-Loop.ensures ∙ loop_in_range c.operands_pass_layer_by_layer-in-Loop.ensures.loops c.numbers_are_in_range_layer_by_layer-in-Loop.ensures c.in-Loop.ty.now c.in-Loop.body.now body ty)
+    c.spell_block-in-Loop.ensures.body c.spell_block-in-Loop.ensures.ty
 
 pub spell_instr-returns-in_ok-spell_else-in-If-clause-range : goal.spell_instr-returns-in_ok-spell_else-in-If-clause-range
-spell_instr-returns-in_ok-spell_else-in-If-clause-range g t c = both_ok c.spell_body.result (λ body ty. ap in_range c.in-If.ensures ∙ if_in_range c.operands_pass_layer_by_layer-in-If.ensures.ifs c.numbers_are_in_range_layer_by_layer-in-If.ensures c.in-If.ty.now c.in-If.body.now c.in-If.other.now body c.in_ok-spell_else-in-If.ensures.range ty) c.spell_body.ensures.body c.spell_body.ensures.ty
+spell_instr-returns-in_ok-spell_else-in-If-clause-range g t c = both_ok c.spell_body.result (λ body ty. ap in_range c.in-If.ensures ∙
+    if_in_range c.operands_pass_layer_by_layer-in-If.ensures.ifs c.numbers_are_in_range_layer_by_layer-in-If.ensures c.in-If.ty.now c.in-If.body.now c.in-If.other.now body c.in_ok-spell_else-in-If.ensures.range ty) c.spell_body.ensures.body c.spell_body.ensures.ty
 
 pub spell_instr-returns-in-Branches-clause-range : goal.spell_instr-returns-in-Branches-clause-range
 spell_instr-returns-in-Branches-clause-range g t c = on_ok c.spell_branches.result (λ labels. ap in_range c.in-Branches.ensures ∙ table_in_range c.in-Branches.labels.now c.in-Branches.other c.spell_branches.ensures.other labels) c.spell_branches.ensures.labels

@@ -9,7 +9,8 @@ pub returns-in_default : goal.returns-in_default
 returns-in_default c = get_nowhere c.args.input.now c.args.self.now c.requires.fits c.args.table c.args.operands.now c.args.operands.now c.if-table-self.false (sym c.in_default.ensures)
 
 pub returns-in_default-pop_narrow : goal.returns-in_default-pop_narrow
-returns-in_default-pop_narrow c = get_untyped c.args.input.now c.args.self.now c.requires.fits c.args.table c.args.operands.now c.args.operands.now c.if-table-self.false c.in-Some.field-0 (table_found c.args.input.now c.args.self.now c.requires.fits c.args.table c.if-table-self.false c.in-Some.field-0 (sym c.in-Some.ensures)) (c.in_default-pop_narrow.ensures.none refl)
+returns-in_default-pop_narrow c = get_untyped c.args.input.now c.args.self.now c.requires.fits c.args.table c.args.operands.now c.args.operands.now c.if-table-self.false c.in-Some.field-0
+    (table_found c.args.input.now c.args.self.now c.requires.fits c.args.table c.if-table-self.false c.in-Some.field-0 (sym c.in-Some.ensures)) (c.in_default-pop_narrow.ensures.none refl)
 
 pub returns-in-Unknown : goal.returns-in-Unknown
 returns-in-Unknown c =

@@ -137,7 +137,8 @@ run_opened-returns-then-opening-clause-runs t c = λ o rest p es d.
     (omega (arith, c.requires.deep, c.if-depth-eq-MOST_DEPTH.false)) cut.1 (c.replace-below.ensures.after ∙ cut.2)
     (rw c.in-Branch.is at c.in_ok-run_code.ensures.runs)
     (came
-    (jumped c.args.input.now c.run_code.new.self c.in-Branch.label b.gives b.takes (back_of o b.again) c.take_level.new.self c.in-Some-3.carried c.take_top-in-Branch.new.self c.put_back-in-Branch.new.self rest p es (omega (arith, c.if-label-gt0.false)) (rw c.in-Some-3.is at c.in_ok-carried-in-Branch.ensures)
+    (jumped c.args.input.now c.run_code.new.self c.in-Branch.label b.gives b.takes (back_of o b.again) c.take_level.new.self c.in-Some-3.carried c.take_top-in-Branch.new.self c.put_back-in-Branch.new.self rest p es (omega (arith, c.if-label-gt0.false))
+        (rw c.in-Some-3.is at c.in_ok-carried-in-Branch.ensures)
     (c.in_ok-put_back-in-Branch.ensures ∙ ap (λ ys. c.in-Some-3.carried ++ ys) c.replace-below.ensures.value)
     ∙ ap (λ k. running c.args.input.now (record c.run_code.new.self { operands = c.put_back-in-Branch.new.self }) k p es) (back_again o b.again rest c.if-opening.true))
     here)
@@ -150,7 +151,8 @@ run_opened-returns-else-opening-clause-runs t c = λ o rest p es d.
     (omega (arith, c.requires.deep, c.if-depth-eq-MOST_DEPTH.false)) cut.1 (c.replace-below.ensures.after ∙ cut.2)
     (rw c.in-Branch.is at c.in_ok-run_code.ensures.runs)
     (came
-    (jumped c.args.input.now c.run_code.new.self c.in-Branch.label b.gives b.takes (back_of o b.again) c.take_level.new.self c.in-Some-3.carried c.take_top-in-Branch.new.self c.put_back-in-Branch.new.self rest p es (omega (arith, c.if-label-gt0.false)) (rw c.in-Some-3.is at c.in_ok-carried-in-Branch.ensures)
+    (jumped c.args.input.now c.run_code.new.self c.in-Branch.label b.gives b.takes (back_of o b.again) c.take_level.new.self c.in-Some-3.carried c.take_top-in-Branch.new.self c.put_back-in-Branch.new.self rest p es (omega (arith, c.if-label-gt0.false))
+        (rw c.in-Some-3.is at c.in_ok-carried-in-Branch.ensures)
     (c.in_ok-put_back-in-Branch.ensures ∙ ap (λ ys. c.in-Some-3.carried ++ ys) c.replace-below.ensures.value)
     ∙ ap (λ k. running c.args.input.now (record c.run_code.new.self { operands = c.put_back-in-Branch.new.self }) k p es) (back_on o b.again rest c.if-opening.false))
     here)
@@ -241,13 +243,16 @@ run_frame-returns-in-None-clause-runs t c = λ es d.
 -- ---- a call ----
 
 pub run_call-returns-then-func-self-clause-runs : goal.run_call-returns-then-func-self-clause-runs
-run_call-returns-then-func-self-clause-runs t c = λ o rest p es d. let own = own_call c.args.input.now c.args.self.now.kept (c.imported_functions_are_typed.ensures c.args.input.now c.requires.valid) c.requires.fits c.args.func c.if-func-self.true in call_import c.args.input.now c.args.self.now c.args.func rest p es own.0.0 own.0.1 own.1
+run_call-returns-then-func-self-clause-runs t c = λ o rest p es d. let own = own_call c.args.input.now c.args.self.now.kept (c.imported_functions_are_typed.ensures c.args.input.now c.requires.valid) c.requires.fits c.args.func c.if-func-self.true in
+    call_import c.args.input.now c.args.self.now c.args.func rest p es own.0.0 own.0.1 own.1
 
 pub run_call-returns-in_default-clause-runs : goal.run_call-returns-in_default-clause-runs
-run_call-returns-in_default-clause-runs t c = λ o rest p es d. call_none c.args.input.now c.args.self.now c.args.func rest p es (no_call c.args.input.now c.args.self.now.kept (c.imported_functions_are_typed.ensures c.args.input.now c.requires.valid) c.requires.fits c.args.func c.if-func-self.false (sym c.in_default.ensures.value))
+run_call-returns-in_default-clause-runs t c = λ o rest p es d. call_none c.args.input.now c.args.self.now c.args.func rest p es
+    (no_call c.args.input.now c.args.self.now.kept (c.imported_functions_are_typed.ensures c.args.input.now c.requires.valid) c.requires.fits c.args.func c.if-func-self.false (sym c.in_default.ensures.value))
 
 pub run_call-returns-in_default-get-clause-runs : goal.run_call-returns-in_default-get-clause-runs
-run_call-returns-in_default-get-clause-runs t c = λ o rest p es d. absurd (callee_typed c.args.input.now c.args.self.now.kept (c.imported_functions_are_typed.ensures c.args.input.now c.requires.valid) c.requires.fits c.args.func c.in-Some.callee.now c.if-func-self.false (sym c.in-Some.ensures.value) (sym c.in_default-get.ensures.value))
+run_call-returns-in_default-get-clause-runs t c = λ o rest p es d. absurd (callee_typed c.args.input.now c.args.self.now.kept (c.imported_functions_are_typed.ensures c.args.input.now c.requires.valid) c.requires.fits c.args.func c.in-Some.callee.now c.if-func-self.false
+    (sym c.in-Some.ensures.value) (sym c.in_default-get.ensures.value))
 
 pub run_call-returns-in_default-2-clause-runs : goal.run_call-returns-in_default-2-clause-runs
 run_call-returns-in_default-2-clause-runs t c = λ o rest p es d.

@@ -3,10 +3,14 @@ use Rattle.eval_machine.proofs.SlotsFilled.{AllStand, all_stand, one_filled, one
 use Rattle.eval_machine.proofs.slots.Slots.fill.Goals as goal
 
 pub returns-in-Some : goal.returns-in-Some
-returns-in-Some c = one_stopped c.args.input.now c.loop-i.i c.loop-i.self c.copy_if_active.new.self c.index-segments-i.result (subst (λ l. slice_get l c.loop-i.i ≡ Some c.index-segments-i.result) c.as_slice-segments.ensures (slice_get_read c.as_slice-segments.result.now (length c.as_slice-segments.result.now) c.loop-i.i c.index-segments-i.result refl c.loop-i-test.true c.index-segments-i.is)) c.loop-i.invariant c.in_ok-stop.field-0 c.in-Some.stop c.in_ok-stop.ensures c.in-Some.is
+returns-in-Some c = one_stopped c.args.input.now c.loop-i.i c.loop-i.self c.copy_if_active.new.self c.index-segments-i.result
+    (subst (λ l. slice_get l c.loop-i.i ≡ Some c.index-segments-i.result) c.as_slice-segments.ensures (slice_get_read c.as_slice-segments.result.now (length c.as_slice-segments.result.now) c.loop-i.i c.index-segments-i.result refl c.loop-i-test.true c.index-segments-i.is)) c.loop-i.invariant
+    c.in_ok-stop.field-0 c.in-Some.stop c.in_ok-stop.ensures c.in-Some.is
 
 pub loop-i-preserved : goal.loop-i-preserved
-loop-i-preserved c = one_filled c.args.input.now c.loop-i.i c.loop-i.self c.copy_if_active.new.self c.index-segments-i.result (subst (λ l. slice_get l c.loop-i.i ≡ Some c.index-segments-i.result) c.as_slice-segments.ensures (slice_get_read c.as_slice-segments.result.now (length c.as_slice-segments.result.now) c.loop-i.i c.index-segments-i.result refl c.loop-i-test.true c.index-segments-i.is)) c.loop-i.invariant c.in_ok-stop.field-0 c.in_ok-stop.ensures c.in-None.is
+loop-i-preserved c = one_filled c.args.input.now c.loop-i.i c.loop-i.self c.copy_if_active.new.self c.index-segments-i.result
+    (subst (λ l. slice_get l c.loop-i.i ≡ Some c.index-segments-i.result) c.as_slice-segments.ensures (slice_get_read c.as_slice-segments.result.now (length c.as_slice-segments.result.now) c.loop-i.i c.index-segments-i.result refl c.loop-i-test.true c.index-segments-i.is)) c.loop-i.invariant
+    c.in_ok-stop.field-0 c.in_ok-stop.ensures c.in-None.is
 
 pub returns : goal.returns
 returns c =
