@@ -178,7 +178,7 @@ kept_chosen {A} {B} test f is (b ∷ bs) cs (x ∷ xs) from l m h = by (λ cs. k
 
     by : ((cs : List Bool) → length (filter_map f xs) ≤ length cs → AreKeptAlike test bs cs xs (suc from) → filter_map f (kept bs xs) ≡ kept cs (filter_map f xs)) → (o : Option B) (t : Bool) → f x ≡ o → test x ≡ t → is_some (f x) ≡ test x → (cs : List Bool) →
         length (cons_option (f x) (filter_map f xs)) ≤ length cs → ((i n : ℕ) → slice_get (cond (test x) (from ∷ places test xs (suc from)) (places test xs (suc from))) i ≡ Some (from + n) → is_marked (b ∷ bs) n ≡ is_marked cs i) → filter_map f (cond b (x ∷ kept bs xs) (kept bs xs)) ≡
-            kept cs (cons_option (f x) (filter_map f xs))
+        kept cs (cons_option (f x) (filter_map f xs))
     by on None true e g s cs m h = absurd (true≢false (sym g ∙ sym s ∙ ap is_some e))
     by on (Some y) false e g s cs m h = absurd (true≢false (sym (ap is_some e) ∙ s ∙ g))
     by on None false e g s cs m h =

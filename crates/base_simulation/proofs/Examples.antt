@@ -3,7 +3,7 @@ use Rattle.std.proofs.Common.{◌≡◌, ℕ, zero, suc, ◌+◌, ◌*◌, List,
 use Rattle.base_simulation.specs.Machines.{Machine, events_of, IsPrefix}
 use Rattle.base_simulation.specs.Simulations.{StepsTogether}
 use Rattle.base_simulation.proofs.Lockstep.{lockstep}
-use Rattle.base_simulation.proofs.LedRuns.{Leads, both, second, led_traces_are_equal, LeadsSome, stuttering_simulation}
+use Rattle.base_simulation.proofs.StepwiseSimulation.{StepsTogether, both, second, stuttering_traces_are_equal, IsAnsweredBySome, stuttering_simulation}
 
 -- it counts, and shows each number
 abbrev counts : Machine ℕ ℕ
@@ -39,12 +39,12 @@ waits (suc k, n) = ((k, n), None)
 data Waiting : (d e : ℕ) → ℕ → ℕ × ℕ → Type 0 where
   for : {k n : ℕ} → Waiting k 0 n (k, n)
 
-still_waits : (d e : ℕ) (s : ℕ) (q : ℕ × ℕ) → Waiting d e s q → Leads counts waits Waiting d e s q
+still_waits : (d e : ℕ) (s : ℕ) (q : ℕ × ℕ) → Waiting d e s q → StepsTogether counts waits Waiting d e s q
 still_waits d e s (zero, n) for = both refl for
 still_waits d e s (suc k, n) for = second refl for
 
 waits_in_two_more : (n : ℕ) → IsPrefix (events_of counts 0 n) (events_of waits (2, 0) (n + 2)) × IsPrefix (events_of waits (2, 0) n) (events_of counts 0 (n + 0))
-waits_in_two_more = led_traces_are_equal counts waits Waiting still_waits 2 0 0 (2, 0) for
+waits_in_two_more = stuttering_traces_are_equal counts waits Waiting still_waits 2 0 0 (2, 0) for
 
 -- one more is too few
 not_in_one_more : ((n : ℕ) → IsPrefix (events_of counts 0 n) (events_of waits (2, 0) (n + 1))) → ⊥
@@ -60,7 +60,7 @@ rests (suc k, n) = ((k, n), None)
 data Rested : ℕ → ℕ × ℕ → Type 0 where
   at : {n : ℕ} → Rested n (2, n)
 
-still_rests : (s : ℕ) (q : ℕ × ℕ) → Rested s q → LeadsSome counts rests 3 Rested s q
+still_rests : (s : ℕ) (q : ℕ × ℕ) → Rested s q → IsAnsweredBySome counts rests 3 Rested s q
 still_rests s q at = record { further = 2; bound = omega arith; shown = refl; states = at }
 
 rests_in_three_times_as_many : (n : ℕ) → IsPrefix (events_of counts 0 n) (events_of rests (2, 0) (3 * n)) × IsPrefix (events_of rests (2, 0) n) (events_of counts 0 n)

@@ -1,5 +1,5 @@
 pub mod Prefixes
 pub mod Lockstep
 pub mod Stuttering
-pub mod LedRuns
+pub mod StepwiseSimulation
 mod Examples

@@ -27,8 +27,8 @@ module _ {S T E : Type 0} (t : Machine S E) (u : Machine T E) where
   turned (second p f) = first p (turned f)
   turned (first p f) = second p (turned f)
 
-pub budgeted : {S T E : Type 0} → BudgetedTracesAreBounded S T E
-budgeted t u d e r q f n = (is_prefix (there t u n (f (n + d + e)) (omega arith)), is_prefix (there u t n (turned t u (f (n + e + d))) (omega arith)))
+pub followed_traces_are_bounded : {S T E : Type 0} → BudgetedTracesAreBounded S T E
+followed_traces_are_bounded t u d e r q f n = (is_prefix (there t u n (f (n + d + e)) (omega arith)), is_prefix (there u t n (turned t u (f (n + e + d))) (omega arith)))
 
 -- ---- several steps for one ----
 
@@ -56,5 +56,5 @@ module _ {S T E : Type 0} (t : Machine S E) (u : Machine T E) (c : ℕ) where
           let one : events_of t r 1 ++ events_of t (t r).0 m ≡ events_of t r (suc m) = (let k : 1 + m ≡ suc m = omega arith in sym (events_add t 1 m r) ∙ ap (events_of t r) k) in
           prefix_trans (subst (λ x. Prefix x (events_of t r (suc m))) b (subst (λ x. Prefix (events_of t r 1 ++ events_of u v m) x) one (prefix_append (events_of t r 1) (ih m (omega arith))))) (later t (suc m) (suc n) r (omega arith))
 
-pub slowed : {S T E : Type 0} → StutteringTracesAreBounded S T E
-slowed t u c r q a n = (is_prefix (slower t u c (a n)), is_prefix (no_faster t u c n (omega arith) (a n)))
+pub answered_traces_are_bounded : {S T E : Type 0} → StutteringTracesAreBounded S T E
+answered_traces_are_bounded t u c r q a n = (is_prefix (slower t u c (a n)), is_prefix (no_faster t u c n (omega arith) (a n)))

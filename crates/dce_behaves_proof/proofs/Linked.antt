@@ -98,7 +98,7 @@ module _ (laws : Laws) (k : Marks) (t : Module) (c : AreClosed k t) (env : Envir
             let p = laws.items k e.mode e.items n d.0 d.1 in
             let s = all_there_at (world.ref_value env (one t) (i ∷ []) 0) e.items items.0 items.1 p.0 d.0 p.1 in
             right_there (subst (λ c. OptRel (RefRel Q) (world.ref_value env (one t) (i ∷ []) 0 d.0) (world.ref_value env (one u) (j ∷ []) 0 c)) d.2
-                (then_rel (consts k t c env imports laws.constants i j a b d.0 (named.items x n (kept_elem k e) d.0 (map_at (kept_elem k) t.elems x e h) d.1)) (λ _ _ q. ref_rel Q q))) s.1
+            (then_rel (consts k t c env imports laws.constants i j a b d.0 (named.items x n (kept_elem k e) d.0 (map_at (kept_elem k) t.elems x e h) d.1)) (λ _ _ q. ref_rel Q q))) s.1
 
     func_space : length j.funcs ≡ length (funcs_of u)
     func_space =

@@ -324,8 +324,18 @@ module _ (k : Marks) (t : Module) (c : AreClosed k t) where
                   let d = slice_get_there (definitions t) x (omega (arith, l, size, many, counted)) in
                   let moved = kept_at (own_marks k t space) (definitions t) x d.0 m d.1 in
                   partners.defined (record { part = 0; of = t; is_part = refl; inst = i; is_inst = refl; place = x; definition = d.0; stands = d.1; address = omega (arith, e) })
-                  (record { part = 0; of = u; is_part = refl; inst = j; is_inst = refl; place = kept_before (own_marks k t space) x; definition = new d.0; stands = ap (λ xs. slice_get xs (kept_before (own_marks k t space) x)) are ∙
-                      append_at_left (map new (kept (own_marks k t space) (definitions t))) more (kept_before (own_marks k t space) x) (new d.0) (map_at new (kept (own_marks k t space) (definitions t)) (kept_before (own_marks k t space) x) d.0 moved); address = omega (arith, f) })
+                  (record {
+                    part = 0;
+                    of = u;
+                    is_part = refl;
+                    inst = j;
+                    is_inst = refl;
+                    place = kept_before (own_marks k t space) x;
+                    definition = new d.0;
+                    stands = ap (λ xs. slice_get xs (kept_before (own_marks k t space) x)) are ∙
+                        append_at_left (map new (kept (own_marks k t space) (definitions t))) more (kept_before (own_marks k t space) x) (new d.0) (map_at new (kept (own_marks k t space) (definitions t)) (kept_before (own_marks k t space) x) d.0 moved);
+                    address = omega (arith, f);
+                  })
                   (each x d.0 d.1 m)
 
           -- where a definition that is kept stands in what is kept

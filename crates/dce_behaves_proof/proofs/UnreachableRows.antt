@@ -48,8 +48,16 @@ second_is_typed = ([], ([], (Gives [] [], refl, ([], [], refl, tt, refl)), refl)
 
 -- its functions, its export, and the bodies of the functions
 three_is_valid : IsValid three
-three_is_valid = ((calls 1, refl, omega arith), ((calls 2, refl, omega arith), ((empty, refl, omega arith),
-    ((exported 1, refl, omega arith, λ c. absurd (let l = c.1 in omega (arith, l))), ((calls 1, nothing, refl, refl, first_is_typed), ((calls 2, nothing, refl, refl, second_is_typed), ((empty, nothing, refl, refl, ([], refl, tt)), tt)))))))
+three_is_valid = (
+  (calls 1, refl, omega arith),
+  (
+    (calls 2, refl, omega arith),
+    (
+      (empty, refl, omega arith),
+      ((exported 1, refl, omega arith, λ c. absurd (let l = c.1 in omega (arith, l))), ((calls 1, nothing, refl, refl, first_is_typed), ((calls 2, nothing, refl, refl, second_is_typed), ((empty, nothing, refl, refl, ([], refl, tt)), tt)))),
+    ),
+  ),
+)
 
 -- what is left without the first names one type and the other two functions
 names_these : (kept : Indices) → IsTrue (kept Types 0) → IsTrue (kept Functions 1) → IsTrue (kept Functions 2) → TreeNamesOnly kept (kept_tree (all_but 0 three) three)

@@ -91,9 +91,22 @@ not_a (suc k, lt, e) = absurd (omega (arith, lt))
 
 -- its imports, functions and exports, its start and the bodies of the functions
 whole_is_valid : IsValid whole
-whole_is_valid = ((own_func f, refl, omega arith), ((own_func g, refl, omega arith), ((calls 0, refl, omega arith),
-    ((calls 1, refl, omega arith), ((export a 2, refl, omega arith, λ c. absurd (let l = c.1 in omega (arith, l))),
-    ((export b 3, refl, omega arith, not_a), ((3, nothing, refl, refl, refl, refl), ((calls 0, nothing, refl, refl, first_is_typed), ((calls 1, nothing, refl, refl, second_is_typed), tt)))))))))
+whole_is_valid = (
+  (own_func f, refl, omega arith),
+  (
+    (own_func g, refl, omega arith),
+    (
+      (calls 0, refl, omega arith),
+      (
+        (calls 1, refl, omega arith),
+        (
+          (export a 2, refl, omega arith, λ c. absurd (let l = c.1 in omega (arith, l))),
+          ((export b 3, refl, omega arith, not_a), ((3, nothing, refl, refl, refl, refl), ((calls 0, nothing, refl, refl, first_is_typed), ((calls 1, nothing, refl, refl, second_is_typed), tt)))),
+        ),
+      ),
+    ),
+  ),
+)
 
 second_is_closed : AreClosed second whole
 unfolding out-Instr denote.Hole.Carrier.out

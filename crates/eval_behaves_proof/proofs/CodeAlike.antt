@@ -7,7 +7,7 @@ use Rattle.wasm_tree.specs.declared.instr.Instr.{out-Instr, Block', Loop', If'}
 use Rattle.wasm_tree.specs.declared.instr.Instr.TheOpen.{Instr-F}
 use Rattle.wasm_meaning.specs.Prelude.{Inst}
 use Rattle.index_remap.specs.Related
-use Rattle.index_remap.specs.Prelude.{Pairing, AreNamesRelated, BlockRel, empty, value, indexed, OpRel, CodeRel, end, then}
+use Rattle.index_remap.specs.Prelude.{Pairing, AreIndicesRelated, BlockRel, empty, value, indexed, OpRel, CodeRel, end, then}
 use Rattle.index_remap.specs.Related.{SameType}
 use Rattle.index_remap.proofs.NotOpaque.{operands_follow}
 use Rattle.index_remap_proof.specs.Indices.{Indices, LayerNamesOnly}
@@ -16,12 +16,12 @@ module _ (R : Pairing) (i j : Inst) where
   -- the index denotes addresses in the code relation, or for equal types, or for nothing in both
   abbrev pub IndexAlike : Space → ℕ → Type 0
   IndexAlike Types n = SameType i j n n
-  IndexAlike Functions n = AreNamesRelated R.named Functions i.funcs j.funcs n n
-  IndexAlike Tables n = AreNamesRelated R.named Tables i.tables j.tables n n
-  IndexAlike Memories n = AreNamesRelated R.named Memories i.mems j.mems n n
-  IndexAlike Globals n = AreNamesRelated R.named Globals i.globals j.globals n n
-  IndexAlike ElementSegments n = AreNamesRelated R.named ElementSegments i.elems j.elems n n
-  IndexAlike DataSegments n = AreNamesRelated R.named DataSegments i.datas j.datas n n
+  IndexAlike Functions n = AreIndicesRelated R.named Functions i.funcs j.funcs n n
+  IndexAlike Tables n = AreIndicesRelated R.named Tables i.tables j.tables n n
+  IndexAlike Memories n = AreIndicesRelated R.named Memories i.mems j.mems n n
+  IndexAlike Globals n = AreIndicesRelated R.named Globals i.globals j.globals n n
+  IndexAlike ElementSegments n = AreIndicesRelated R.named ElementSegments i.elems j.elems n n
+  IndexAlike DataSegments n = AreIndicesRelated R.named DataSegments i.datas j.datas n n
 
   abbrev pub LayerAlike : Instr-F Instr → Type 0
   LayerAlike l = Every (λ o. IndexAlike o.space o.index) (operands l)

@@ -107,18 +107,18 @@ module _ (m : Module) (k : Kept) (f : MachineFits m k) (n : ℕ) (vs ls : List V
       let same : why.Trap ≡ x = cc in
       let done = done_by m now (Instr-F.GlobalGet n) rest p in
       by_layer m now (i.GlobalGet n) (Instr-F.GlobalGet n) rest p es _ (i.outs-GlobalGet n) (still m now (i.GlobalGet n) (Instr-F.GlobalGet n) rest p es (none_still e) done ∙
-          (still_stops m now (i.GlobalGet n) (Instr-F.GlobalGet n) rest p es done (rw (no_address m k f n e)) ∙ ap (λ y. Stopped y k.turns) same))
+      (still_stops m now (i.GlobalGet n) (Instr-F.GlobalGet n) rest p es done (rw (no_address m k f n e)) ∙ ap (λ y. Stopped y k.turns) same))
   not_got (Some g) x e h = by g.standing refl
     where
       by : (s : Standing) → g.standing ≡ s → begun m now (i.GlobalGet n) rest p es ≡ Stopped x k.turns
       by standing.Known is = absurd (let q = rw is at h in cc)
       by standing.Imported is =
           let same : why.Unknown ≡ x = let q = rw is at h in cc in by_layer m now (i.GlobalGet n) (Instr-F.GlobalGet n) rest p es _ (i.outs-GlobalGet n)
-              (unknown_stops m now (i.GlobalGet n) (Instr-F.GlobalGet n) rest p es refl refl (rw (sym (f.imported n g e) ∙ ap is_of_import is)) _ ∙ ap (λ y. Stopped y k.turns) same)
+          (unknown_stops m now (i.GlobalGet n) (Instr-F.GlobalGet n) rest p es refl refl (rw (sym (f.imported n g e) ∙ ap is_of_import is)) _ ∙ ap (λ y. Stopped y k.turns) same)
       by standing.Unset is =
           let same : why.Unknown ≡ x = let q = rw is at h in cc in
           by_layer m now (i.GlobalGet n) (Instr-F.GlobalGet n) rest p es _ (i.outs-GlobalGet n) (unknown_stops m now (i.GlobalGet n) (Instr-F.GlobalGet n) rest p es refl refl (rw (sym (f.imported n g e) ∙ ap is_of_import is, address m k f n g e, known m k f n g e ∙ ap is_unset is)) _ ∙
-              ap (λ y. Stopped y k.turns) same)
+          ap (λ y. Stopped y k.turns) same)
 
 pub global_got : (m : Module) (k : Kept) (n : ℕ) (vs : List Val) (v : Value) → MachineFits m k → read_of (slice_get k.globals n) ≡ Ok v → BeginsWith m (i.GlobalGet n) k vs None k (val_of v ∷ vs)
 global_got m k n vs v f h = λ ls rest p es. by (slice_get k.globals n) refl h ls rest p es

@@ -38,8 +38,13 @@ module _ (m : Module) where
     funcs = refl;
     tables = refl;
     elems = refl;
-    mems = omega (arith, memories_many m.mems k.memory f.memory, length-append (imported_memories m.imports) m.mems, length-append (imported_store m).mems (memory_in m.mems k.memory),
-        length-map {B = Memory} (imported_memories m.imports) (λ (l : Limits). record { most = l.max; pages = 0; bytes = [] }));
+    mems = omega (
+      arith,
+      memories_many m.mems k.memory f.memory,
+      length-append (imported_memories m.imports) m.mems,
+      length-append (imported_store m).mems (memory_in m.mems k.memory),
+      length-map {B = Memory} (imported_memories m.imports) (λ (l : Limits). record { most = l.max; pages = 0; bytes = [] }),
+    );
     globals = let same = sym (length-map k.globals (λ g. g.ty)) ∙ ap length f.types in omega (arith, same, length-map k.globals global_of);
     datas = datas_many m.datas k.dropped f.dropped;
   }

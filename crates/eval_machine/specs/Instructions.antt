@@ -82,7 +82,7 @@ OpensWith params gives body again _ = ⊥
 abbrev pub Opens : Module → BlockType → (body : List Instr) → (again : Bool) → MachineAct → Type 0
 Opens m ty body again (act.Opens b) =
     (t : FuncType) × (shape_of (own_inst m) ty ≡ Some t) × (b.params.now ≡ t.params) × (b.gives ≡ length t.results) × (b.takes ≡ cond again (length t.params) (length t.results)) ×
-        (b.body.now ≡ body) × (b.again ≡ again)
+    (b.body.now ≡ body) × (b.again ≡ again)
 Opens m ty body again (act.Leaves left) = (shape_of (own_inst m) ty ≡ None) × (left ≡ flow.Stopped why.Trap)
 Opens m ty body again _ = ⊥
 

@@ -53,7 +53,7 @@ first_turn m s es b u w p = first_less (test (nat_eq s.turns 0) why.Steps s.turn
 instr_less : (m : Module) (s : State) (es : List Entry) (b : Beginning) (n w : ℕ) → beginning es ≡ Some b → AllOf (DepthAtMost n) (step s.store es) → (0 < s.turns → 2 * (s.turns - 1) + n < w) → Less w (quiet_step m s es)
 instr_less m s es b n w is all lt =
     rw is (first_turn m s es b _ w (λ (e : nat_eq s.turns 0 ≡ false). let some : 0 < s.turns = omega (arith, λ (z : s.turns ≡ 0). eqb-false s.turns 0 e z) in let l = lt some in
-        came_less (record (spent_at s (Some b)) { unknown = left_unknown s.unknown s.store es }) (step s.store es) n w all (omega (arith, l))))
+    came_less (record (spent_at s (Some b)) { unknown = left_unknown s.unknown s.store es }) (step s.store es) n w all (omega (arith, l))))
 
 levels_less : (m : Module) (s : State) (f : Frame) (es : List Entry) (ls : List Level) → f.levels ≡ ls → Less (weight (Going s (Running f ∷ es))) (quiet_step m s (Running f ∷ es))
 levels_less m s f es [] e = tried_less (tests m s (Running f ∷ es)) (came_to (spent s (Running f ∷ es)) (step s.store (Running f ∷ es))) (weight (Going s (Running f ∷ es))) (none_less (spent s (Running f ∷ es)) (step s.store (Running f ∷ es)) (weight (Going s (Running f ∷ es))) (rw e refl))

@@ -31,4 +31,4 @@ QuietCallsSimulate =
     (m : Module) (of named : Space → ℕ → ℕ → Bool) → RelatesAllButImports m of named → OneToOneWhereWritten (passed of named []) → (s t : State) (es : List Entry) →
     FuncsOf (own_inst m) s.store.funcs → FramesOf (own_inst m) es →
     ComesTo m (Going s es) (Finished t) → (x : Store) (fs : List Entry) → StoreRelOff (passed of named []) s.unknown s.store x → ListRel (EntryRel (passed of named [])) es fs →
-        IsLed (passed of named []) t x fs
+    IsLed (passed of named []) t x fs

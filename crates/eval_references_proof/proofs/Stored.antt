@@ -64,7 +64,7 @@ module _ (m : Module) (coded : CodeIsRelatedToItself) where
   value_itself (const.Global x) v e = then_holds (λ w. ValRel (R m) w w) (slice_get (own_inst m).globals x) _ (λ a i w g.
       then_holds (λ w. ValRel (R m) w w) (slice_get (imported_store m).globals a) _ (λ z j u q.
       subst (λ w. ValRel (R m) w w) (same_Some _ u q) (opt_self {P = λ g h. ValRel (R m) g.value h.value} (get_rel
-          (maps_rel (λ (t : GlobalType). record { ty = t; value = zero_of t.ty }) (λ (t : GlobalType). record { ty = t; value = zero_of t.ty }) (self_rel (imported_globals m.imports) (λ t. zero_itself m t.ty))) a) j)) w g) v e
+      (maps_rel (λ (t : GlobalType). record { ty = t; value = zero_of t.ty }) (λ (t : GlobalType). record { ty = t; value = zero_of t.ty }) (self_rel (imported_globals m.imports) (λ t. zero_itself m t.ty))) a) j)) w g) v e
 
   -- ---- what a module defines ----
 
@@ -120,12 +120,28 @@ module _ (m : Module) (coded : CodeIsRelatedToItself) where
           mems = self_rel _ (λ x. refl);
           datas = self_rel _ (λ x. refl);
           many_funcs = omega (arith, imports, defs, length-append (imported_funcs m.imports) (map (λ f. f.ty) m.funcs), length-map m.funcs (λ f. f.ty), length-append (filter_map (imported_func m) m.imports) fs);
-          many_tables = omega (arith, length-append (imported_tables m.imports) m.tables, length-append (imported_store m).tables (map (λ t. record { ty = t.ty; most = t.limits.max; slots = copies t.limits.min (null_of t.ty) }) m.tables),
-              length-map {B = Table} (imported_tables m.imports) (λ (t : TableType). record { ty = t.ty; most = t.limits.max; slots = [] }), length-map {B = Table} m.tables (λ (t : TableType). record { ty = t.ty; most = t.limits.max; slots = copies t.limits.min (null_of t.ty) }));
-          many_mems = omega (arith, length-append (imported_memories m.imports) m.mems, length-append (imported_store m).mems (map (λ l. record { most = l.max; pages = l.min; bytes = copies (65536 * l.min) 0 }) m.mems),
-              length-map {B = Memory} (imported_memories m.imports) (λ (l : Limits). record { most = l.max; pages = 0; bytes = [] }), length-map {B = Memory} m.mems (λ (l : Limits). record { most = l.max; pages = l.min; bytes = copies (65536 * l.min) 0 }));
-          many_globals = omega (arith, globals, length-append (imported_globals m.imports) (map (λ g. g.ty) m.globals), length-map m.globals (λ g. g.ty), length-append (imported_store m).globals gs,
-              length-map {B = Global} (imported_globals m.imports) (λ (t : GlobalType). record { ty = t; value = zero_of t.ty }));
+          many_tables = omega (
+            arith,
+            length-append (imported_tables m.imports) m.tables,
+            length-append (imported_store m).tables (map (λ t. record { ty = t.ty; most = t.limits.max; slots = copies t.limits.min (null_of t.ty) }) m.tables),
+            length-map {B = Table} (imported_tables m.imports) (λ (t : TableType). record { ty = t.ty; most = t.limits.max; slots = [] }),
+            length-map {B = Table} m.tables (λ (t : TableType). record { ty = t.ty; most = t.limits.max; slots = copies t.limits.min (null_of t.ty) }),
+          );
+          many_mems = omega (
+            arith,
+            length-append (imported_memories m.imports) m.mems,
+            length-append (imported_store m).mems (map (λ l. record { most = l.max; pages = l.min; bytes = copies (65536 * l.min) 0 }) m.mems),
+            length-map {B = Memory} (imported_memories m.imports) (λ (l : Limits). record { most = l.max; pages = 0; bytes = [] }),
+            length-map {B = Memory} m.mems (λ (l : Limits). record { most = l.max; pages = l.min; bytes = copies (65536 * l.min) 0 }),
+          );
+          many_globals = omega (
+            arith,
+            globals,
+            length-append (imported_globals m.imports) (map (λ g. g.ty) m.globals),
+            length-map m.globals (λ g. g.ty),
+            length-append (imported_store m).globals gs,
+            length-map {B = Global} (imported_globals m.imports) (λ (t : GlobalType). record { ty = t; value = zero_of t.ty }),
+          );
           many_elems = omega (arith, elems);
           many_datas = omega (arith, length-map {B = Data} m.datas (λ (d : DataSeg). record { bytes = d.bytes; dropped = false }));
           few_funcs = omega (arith, imports, defs, length-append (imported_funcs m.imports) (map (λ f. f.ty) m.funcs), length-map m.funcs (λ f. f.ty), length-append (filter_map (imported_func m) m.imports) fs);

@@ -8,7 +8,7 @@ use Rattle.wasm_num.specs.Operations.{W32}
 use Rattle.wasm_meaning.specs.Control.{call, call_indirect, finish, branch_if, branch_table, open_loop, open_if}
 use Rattle.wasm_meaning.proofs.Outcomes.{then_given, then_found}
 use Rattle.index_remap.specs.Related
-use Rattle.index_remap.specs.Prelude.{Pairing, OptRel, none, some, ResRel, done, trap, wrong, ListRel, nil, cons, RefRel, func, extern, ValRel, AreNamesRelated, BlockRel, empty, value, indexed, OpRel, CodeRel, end, then, instead, TableRel, LevelRel, BodyRel, keep, goes, calls, ends, Unknowns}
+use Rattle.index_remap.specs.Prelude.{Pairing, OptRel, none, some, ResRel, done, trap, wrong, ListRel, nil, cons, RefRel, func, extern, ValRel, AreIndicesRelated, BlockRel, empty, value, indexed, OpRel, CodeRel, end, then, instead, TableRel, LevelRel, BodyRel, keep, goes, calls, ends, Unknowns}
 use Rattle.index_remap.specs.Prelude.{StoreRelOff, read_by, ReadsKnown, known, ActOff}
 use Rattle.index_remap.specs.Related.{SameType}
 use Rattle.index_remap.proofs.Rel.{bind_rel, or_trap_rel, bind_found, bind_is}
@@ -24,14 +24,14 @@ followed_rel {R} {i} {j} {e = g} {f = f} (instead {o = o} {c = c} {d = d} e p q 
 module _ (R : Pairing) (off : Unknowns) (ev ew : Env) (st : StoreRelOff R off ev.store ew.store) where
   -- ---- calls ----
 
-  pub call_rel : {h k : Body} (n m : ℕ) → BodyRel R ev.inst ew.inst h k → AreNamesRelated R.of Functions ev.inst.funcs ew.inst.funcs n m → ResRel (ActOff R off ev.inst ew.inst) (call ev h n) (call ew k m)
+  pub call_rel : {h k : Body} (n m : ℕ) → BodyRel R ev.inst ew.inst h k → AreIndicesRelated R.of Functions ev.inst.funcs ew.inst.funcs n m → ResRel (ActOff R off ev.inst ew.inst) (call ev h n) (call ew k m)
   call_rel n m r p = bind_found p (λ _ _ p. done (calls p r.values r))
 
   func_ref_rel : {x y : RefVal} → RefRel R x y → ResRel (R.of Functions) (func_ref x) (func_ref y)
   func_ref_rel (func p) = or_trap_rel p
   func_ref_rel extern = wrong
 
-  pub call_indirect_rel : {h k : Body} (s t n m : ℕ) → BodyRel R ev.inst ew.inst h k → SameType ev.inst ew.inst s t → AreNamesRelated R.of Tables ev.inst.tables ew.inst.tables n m → ReadsKnown off (read_by (Instr-F.CallIndirect s n) ev h.values) →
+  pub call_indirect_rel : {h k : Body} (s t n m : ℕ) → BodyRel R ev.inst ew.inst h k → SameType ev.inst ew.inst s t → AreIndicesRelated R.of Tables ev.inst.tables ew.inst.tables n m → ReadsKnown off (read_by (Instr-F.CallIndirect s n) ev h.values) →
       ResRel (ActOff R off ev.inst ew.inst) (call_indirect ev h s n) (call_indirect ew k t m)
   call_indirect_rel s t n m r e p reads =
       bind_table R off ev ew st n m _ _ r p (λ a _ _ _ is _ table. bind_num_is R W32 _ _ r.values (λ i _ _ top v.

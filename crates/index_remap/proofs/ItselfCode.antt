@@ -6,10 +6,10 @@ use Rattle.wasm_tree.specs.declared.instr.Instr.{out-Instr, Block', Loop', If'}
 use Rattle.wasm_tree.specs.declared.instr.Instr.TheOpen.{Instr-F}
 use Rattle.wasm_meaning.specs.Prelude.{Inst}
 use Rattle.index_remap.specs.Related
-use Rattle.index_remap.specs.Prelude.{Pairing, OptRel, none, some, AreNamesRelated, BlockRel, empty, value, indexed, OpRel, CodeRel, end, then, NamesItself}
+use Rattle.index_remap.specs.Prelude.{Pairing, OptRel, none, some, AreIndicesRelated, BlockRel, empty, value, indexed, OpRel, CodeRel, end, then, NamesItself}
 
 module _ (R : Pairing) (i : Inst) (h : NamesItself R i) where
-  self : (k : Space) (xs : List ℕ) → ((n a : ℕ) → slice_get xs n ≡ Some a → R.named k a a) → (n : ℕ) → AreNamesRelated R.named k xs xs n n
+  self : (k : Space) (xs : List ℕ) → ((n a : ℕ) → slice_get xs n ≡ Some a → R.named k a a) → (n : ℕ) → AreIndicesRelated R.named k xs xs n n
   self k xs all n = go (slice_get xs n) (all n)
     where
       go : (o : Option ℕ) → ((a : ℕ) → o ≡ Some a → R.named k a a) → OptRel (R.named k) o o
@@ -21,22 +21,22 @@ module _ (R : Pairing) (i : Inst) (h : NamesItself R i) where
   block_self (bt.Value t) = value
   block_self (bt.Index k) = indexed refl
 
-  abbrev func : (n : ℕ) → AreNamesRelated R.named Functions i.funcs i.funcs n n
+  abbrev func : (n : ℕ) → AreIndicesRelated R.named Functions i.funcs i.funcs n n
   func = self Functions i.funcs h.funcs
 
-  abbrev table : (n : ℕ) → AreNamesRelated R.named Tables i.tables i.tables n n
+  abbrev table : (n : ℕ) → AreIndicesRelated R.named Tables i.tables i.tables n n
   table = self Tables i.tables h.tables
 
-  abbrev memory : (n : ℕ) → AreNamesRelated R.named Memories i.mems i.mems n n
+  abbrev memory : (n : ℕ) → AreIndicesRelated R.named Memories i.mems i.mems n n
   memory = self Memories i.mems h.mems
 
-  abbrev global : (n : ℕ) → AreNamesRelated R.named Globals i.globals i.globals n n
+  abbrev global : (n : ℕ) → AreIndicesRelated R.named Globals i.globals i.globals n n
   global = self Globals i.globals h.globals
 
-  abbrev elem_segment : (n : ℕ) → AreNamesRelated R.named ElementSegments i.elems i.elems n n
+  abbrev elem_segment : (n : ℕ) → AreIndicesRelated R.named ElementSegments i.elems i.elems n n
   elem_segment = self ElementSegments i.elems h.elems
 
-  abbrev data_segment : (n : ℕ) → AreNamesRelated R.named DataSegments i.datas i.datas n n
+  abbrev data_segment : (n : ℕ) → AreIndicesRelated R.named DataSegments i.datas i.datas n n
   data_segment = self DataSegments i.datas h.datas
 
   -- what the layer holds is related to itself

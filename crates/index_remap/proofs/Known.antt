@@ -4,7 +4,7 @@ use Rattle.wasm_tree_spec.specs.Prelude.{Space, Instr}
 use Rattle.wasm_tree.specs.declared.instr.Instr.TheOpen.{Instr-F}
 use Rattle.wasm_meaning.specs.Prelude.{Inst, Level, Entry, Running, Mark, Opening, Waiting, Ended, Growing}
 use Rattle.index_remap.specs.Related
-use Rattle.index_remap.specs.Prelude.{Pairing, OptRel, none, some, AreNamesRelated, ArgRel, OpRel, NextKnown, TopKnown, EntriesKnown}
+use Rattle.index_remap.specs.Prelude.{Pairing, OptRel, none, some, AreIndicesRelated, ArgRel, OpRel, NextKnown, TopKnown, EntriesKnown}
 
 module _ (R : Pairing) (known : (k : Space) (a b : ℕ) → R.named k a b → R.of k a b) (i j : Inst) where
   names_known : {k : Space} {o p : Option ℕ} → OptRel (R.named k) o p → OptRel (R.of k) o p

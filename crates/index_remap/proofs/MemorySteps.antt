@@ -4,14 +4,14 @@ use Rattle.wasm_tree_spec.specs.Prelude.{Memories, DataSegments, LoadOp, StoreOp
 use Rattle.wasm_meaning.specs.Prelude.{Outcome, Gives, bind, slice, copies, or_trap, load_width, store_from, stored, Val, Memory, Env, Body, written, load_from, with_memory, writes, store_into, memory_may_grow, pop_three, init_memory}
 use Rattle.wasm_num.specs.Operations.{W32}
 use Rattle.wasm_meaning.specs.Memory.{load, store, memory_size, memory_grow, memory_init, data_drop, memory_copy, memory_fill}
-use Rattle.index_remap.specs.Prelude.{Pairing, ResRel, done, ListRel, cons, ValRel, number, AreNamesRelated, ArgRel, BodyRel, memory_grows, set_memory, drop_data, goes, asks_grow, Unknowns, StoreRelOff, known, ActOff}
+use Rattle.index_remap.specs.Prelude.{Pairing, ResRel, done, ListRel, cons, ValRel, number, AreIndicesRelated, ArgRel, BodyRel, memory_grows, set_memory, drop_data, goes, asks_grow, Unknowns, StoreRelOff, known, ActOff}
 use Rattle.index_remap.proofs.Rel.{bind_same, bind_found, bind_rel_is}
 use Rattle.base_lists.specs.Related.{PairRel}
 use Rattle.index_remap.proofs.ValueSteps.{bind_num, values_rel, on_values_rel, pushes_rel}
 
 module _ (R : Pairing) (off : Unknowns) (ev ew : Env) (st : StoreRelOff R off ev.store ew.store) where
   -- equal memories at related addresses
-  bind_memory : {B C : Type 0} {Q : B → C → Type 0} {h k : Body} (n m : ℕ) (f : ℕ → Memory → Outcome B) (g : ℕ → Memory → Outcome C) → BodyRel R ev.inst ew.inst h k → AreNamesRelated R.of Memories ev.inst.mems ew.inst.mems n m →
+  bind_memory : {B C : Type 0} {Q : B → C → Type 0} {h k : Body} (n m : ℕ) (f : ℕ → Memory → Outcome B) (g : ℕ → Memory → Outcome C) → BodyRel R ev.inst ew.inst h k → AreIndicesRelated R.of Memories ev.inst.mems ew.inst.mems n m →
       ((a b : ℕ) (x : Memory) → R.of Memories a b → ResRel Q (f a x) (g b x)) → ResRel Q (with_memory ev n f) (with_memory ew m g)
   bind_memory {Q = Q} n m f g r p q =
       bind_found p (λ a b p. bind_found (there (st.mems p)) (λ x y e. subst (λ z. ResRel Q (f a x) (g b z)) e (q a b x p)))
@@ -32,10 +32,10 @@ module _ (R : Pairing) (off : Unknowns) (ev ew : Env) (st : StoreRelOff R off ev
   pub store_rel : {h k : Body} {a b : MemArg} (o : StoreOp) → BodyRel R ev.inst ew.inst h k → ArgRel R.of ev.inst ew.inst a b → ResRel (ActOff R off ev.inst ew.inst) (store ev h o a) (store ew k o b)
   store_rel {a = a} {b = b} o r p = rw p.offset (bind_memory a.memory b.memory _ _ r p.memory (λ _ _ m q. store_into_rel o b.offset m r q))
 
-  pub memory_size_rel : {h k : Body} (n m : ℕ) → BodyRel R ev.inst ew.inst h k → AreNamesRelated R.of Memories ev.inst.mems ew.inst.mems n m → ResRel (ActOff R off ev.inst ew.inst) (memory_size ev h n) (memory_size ew k m)
+  pub memory_size_rel : {h k : Body} (n m : ℕ) → BodyRel R ev.inst ew.inst h k → AreIndicesRelated R.of Memories ev.inst.mems ew.inst.mems n m → ResRel (ActOff R off ev.inst ew.inst) (memory_size ev h n) (memory_size ew k m)
   memory_size_rel n m r p = bind_memory n m _ _ r p (λ _ _ m q. pushes_rel R off ev ew st r number)
 
-  pub memory_grow_rel : {h k : Body} (n m : ℕ) → BodyRel R ev.inst ew.inst h k → AreNamesRelated R.of Memories ev.inst.mems ew.inst.mems n m → ResRel (ActOff R off ev.inst ew.inst) (memory_grow ev h n) (memory_grow ew k m)
+  pub memory_grow_rel : {h k : Body} (n m : ℕ) → BodyRel R ev.inst ew.inst h k → AreIndicesRelated R.of Memories ev.inst.mems ew.inst.mems n m → ResRel (ActOff R off ev.inst ew.inst) (memory_grow ev h n) (memory_grow ew k m)
   memory_grow_rel n m r p =
       bind_memory n m _ _ r p (λ _ _ m q. bind_num R W32 _ _ r.values (λ c _ _ v. cond_two (ResRel (ActOff R off ev.inst ew.inst)) (memory_may_grow m c) (done (asks_grow (memory_grows q) (values_rel R off ev ew st r v))) (pushes_rel R off ev ew st (values_rel R off ev ew st r v) number)))
 
@@ -54,15 +54,15 @@ module _ (R : Pairing) (off : Unknowns) (ev ew : Env) (st : StoreRelOff R off ev
   init_memory_rel : {h k : Body} {a b : ℕ} (bytes : List ℕ) (m : Memory) → BodyRel R ev.inst ew.inst h k → R.of Memories a b → ResRel (ActOff R off ev.inst ew.inst) (init_memory h bytes a m) (init_memory k bytes b m)
   init_memory_rel bytes m r p = bind_three _ _ r.values (λ n _ _ v. bind_same (or_trap (slice bytes n.1 n.2)) (λ b. writes_rel (written m n.0 b) r p v))
 
-  pub memory_init_rel : {h k : Body} (s t n m : ℕ) → BodyRel R ev.inst ew.inst h k → AreNamesRelated R.of DataSegments ev.inst.datas ew.inst.datas s t → AreNamesRelated R.of Memories ev.inst.mems ew.inst.mems n m → ResRel (ActOff R off ev.inst ew.inst) (memory_init ev h s n) (memory_init ew k t m)
+  pub memory_init_rel : {h k : Body} (s t n m : ℕ) → BodyRel R ev.inst ew.inst h k → AreIndicesRelated R.of DataSegments ev.inst.datas ew.inst.datas s t → AreIndicesRelated R.of Memories ev.inst.mems ew.inst.mems n m → ResRel (ActOff R off ev.inst ew.inst) (memory_init ev h s n) (memory_init ew k t m)
   memory_init_rel {h} {k} s t n m r p q =
       bind_found p (λ _ _ p. bind_found (there (st.datas p)) (λ d e eq. subst (λ bytes. ResRel (ActOff R off ev.inst ew.inst) (with_memory ev n (init_memory h d.bytes)) (with_memory ew m (init_memory k bytes))) eq (bind_memory n m _ _ r q (λ _ _ x q. init_memory_rel d.bytes x r q))))
 
-  pub data_drop_rel : {h k : Body} (s t : ℕ) → BodyRel R ev.inst ew.inst h k → AreNamesRelated R.of DataSegments ev.inst.datas ew.inst.datas s t → ResRel (ActOff R off ev.inst ew.inst) (data_drop ev h s) (data_drop ew k t)
+  pub data_drop_rel : {h k : Body} (s t : ℕ) → BodyRel R ev.inst ew.inst h k → AreIndicesRelated R.of DataSegments ev.inst.datas ew.inst.datas s t → ResRel (ActOff R off ev.inst ew.inst) (data_drop ev h s) (data_drop ew k t)
   data_drop_rel s t r p = bind_found p (λ _ _ p. done (goes (known (drop_data p)) r))
 
-  pub memory_copy_rel : {h k : Body} (s t n m : ℕ) → BodyRel R ev.inst ew.inst h k → AreNamesRelated R.of Memories ev.inst.mems ew.inst.mems n m → AreNamesRelated R.of Memories ev.inst.mems ew.inst.mems s t → ResRel (ActOff R off ev.inst ew.inst) (memory_copy ev h n s) (memory_copy ew k m t)
+  pub memory_copy_rel : {h k : Body} (s t n m : ℕ) → BodyRel R ev.inst ew.inst h k → AreIndicesRelated R.of Memories ev.inst.mems ew.inst.mems n m → AreIndicesRelated R.of Memories ev.inst.mems ew.inst.mems s t → ResRel (ActOff R off ev.inst ew.inst) (memory_copy ev h n s) (memory_copy ew k m t)
   memory_copy_rel s t n m r p q = bind_memory s t _ _ r q (λ _ _ source _. bind_memory n m _ _ r p (λ _ _ x p. init_memory_rel source.bytes x r p))
 
-  pub memory_fill_rel : {h k : Body} (n m : ℕ) → BodyRel R ev.inst ew.inst h k → AreNamesRelated R.of Memories ev.inst.mems ew.inst.mems n m → ResRel (ActOff R off ev.inst ew.inst) (memory_fill ev h n) (memory_fill ew k m)
+  pub memory_fill_rel : {h k : Body} (n m : ℕ) → BodyRel R ev.inst ew.inst h k → AreIndicesRelated R.of Memories ev.inst.mems ew.inst.mems n m → ResRel (ActOff R off ev.inst ew.inst) (memory_fill ev h n) (memory_fill ew k m)
   memory_fill_rel n m r p = bind_memory n m _ _ r p (λ _ _ m p. bind_three _ _ r.values (λ n _ _ v. writes_rel (written m n.0 (copies n.2 (n.1 % 256))) r p v))

@@ -10,7 +10,7 @@ use Rattle.wasm_meaning.specs.Prelude.{Outcome, Gives, IllTyped, or_trap, bind, 
 use Rattle.wasm_meaning.specs.Prelude.{on_values, pushes, local_put, global_put, global_set}
 use Rattle.wasm_num.specs.Operations.{Width, W32, W64, un_from, bin_from, bin_value}
 use Rattle.wasm_meaning.specs.Values.{is_null, is_number, second_type, local_get, local_set, local_tee, global_get, ref_func}
-use Rattle.index_remap.specs.Prelude.{Pairing, none, some, ResRel, done, wrong, ListRel, nil, cons, RefRel, func, extern, ValRel, number, reference, AreNamesRelated, BodyRel, keep, set_global, goes, Unknowns, StoreRelOff, ReadsGlobal, read_by, ReadsKnown, known, ActOff, HaveTypes}
+use Rattle.index_remap.specs.Prelude.{Pairing, none, some, ResRel, done, wrong, ListRel, nil, cons, RefRel, func, extern, ValRel, number, reference, AreIndicesRelated, BodyRel, keep, set_global, goes, Unknowns, StoreRelOff, ReadsGlobal, read_by, ReadsKnown, known, ActOff, HaveTypes}
 use Rattle.index_remap.proofs.Rel.{bind_rel, bind_same, bind_eq, bind_all, any, bind_found, bind_found_is}
 use Rattle.base_lists.specs.Related.{PairRel}
 use Rattle.wasm_meaning.proofs.Outcomes.{AllOf, just, then_found}
@@ -151,16 +151,16 @@ module _ (R : Pairing) (off : Unknowns) (ev ew : Env) (st : StoreRelOff R off ev
   pub local_tee_rel : {h k : Body} (i : ℕ) → BodyRel R ev.inst ew.inst h k → ResRel (ActOff R off ev.inst ew.inst) (local_tee h i) (local_tee k i)
   local_tee_rel i r = bind_rel (pop_rel R r.values) (λ _ _ p. local_put_rel i r p.first)
 
-  pub global_get_rel : {h k : Body} (n m : ℕ) → BodyRel R ev.inst ew.inst h k → AreNamesRelated R.of Globals ev.inst.globals ew.inst.globals n m → ReadsKnown off (read_by (Instr-F.GlobalGet n) ev h.values) → ResRel (ActOff R off ev.inst ew.inst) (global_get ev h n) (global_get ew k m)
+  pub global_get_rel : {h k : Body} (n m : ℕ) → BodyRel R ev.inst ew.inst h k → AreIndicesRelated R.of Globals ev.inst.globals ew.inst.globals n m → ReadsKnown off (read_by (Instr-F.GlobalGet n) ev h.values) → ResRel (ActOff R off ev.inst ew.inst) (global_get ev h n) (global_get ew k m)
   global_get_rel n m r p reads = bind_found_is p (λ a _ is p. bind_found (there (st.globals p)) (λ _ _ g. pushes_rel r (g.value (ap not (reads _ (then_found (λ a. Gives (ReadsGlobal a)) is))))))
 
   global_put_rel : {h k : Body} {v w : Val} {a b : ℕ} (g e : Global) → R.of Globals a b → g.ty ≡ e.ty → BodyRel R ev.inst ew.inst h k → ValRel R v w → ResRel (ActOff R off ev.inst ew.inst) (global_put h a g v) (global_put k b e w)
   global_put_rel g e n type r v =
       rw type (cond_two (ResRel (ActOff R off ev.inst ew.inst)) e.ty.mutable (bind_rel (typed_rel R e.ty.ty v) (λ x y new. done (goes (known (set_global n (record { type = refl; value = new }))) r))) wrong)
 
-  pub global_set_rel : {h k : Body} (n m : ℕ) → BodyRel R ev.inst ew.inst h k → AreNamesRelated R.of Globals ev.inst.globals ew.inst.globals n m → ResRel (ActOff R off ev.inst ew.inst) (global_set ev h n) (global_set ew k m)
+  pub global_set_rel : {h k : Body} (n m : ℕ) → BodyRel R ev.inst ew.inst h k → AreIndicesRelated R.of Globals ev.inst.globals ew.inst.globals n m → ResRel (ActOff R off ev.inst ew.inst) (global_set ev h n) (global_set ew k m)
   global_set_rel n m r p =
       bind_found p (λ _ _ p. bind_found (there (st.globals p)) (λ x y g. bind_rel (pop_rel R r.values) (λ _ _ v. global_put_rel x y p g.type (values_rel r v.second) v.first)))
 
-  pub ref_func_rel : {h k : Body} (n m : ℕ) → BodyRel R ev.inst ew.inst h k → AreNamesRelated R.of Functions ev.inst.funcs ew.inst.funcs n m → ResRel (ActOff R off ev.inst ew.inst) (ref_func ev h n) (ref_func ew k m)
+  pub ref_func_rel : {h k : Body} (n m : ℕ) → BodyRel R ev.inst ew.inst h k → AreIndicesRelated R.of Functions ev.inst.funcs ew.inst.funcs n m → ResRel (ActOff R off ev.inst ew.inst) (ref_func ev h n) (ref_func ew k m)
   ref_func_rel n m r p = bind_found p (λ _ _ p. pushes_rel r (reference (func (some p))))

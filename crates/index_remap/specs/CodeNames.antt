@@ -6,18 +6,18 @@ use Rattle.wasm_tree.specs.declared.instr.Instr.TheOpen.{Instr-F}
 use Rattle.wasm_meaning.specs.Prelude.{Inst}
 use Rattle.index_remap.specs.declared.remap.Remap.{Remap}
 use Rattle.index_remap.specs.Renumbered.{entry}
-use Rattle.index_remap.specs.Related.{Pairing, AreNamesRelated, SameType}
+use Rattle.index_remap.specs.Related.{Pairing, AreIndicesRelated, SameType}
 
 -- The index and its entry denote addresses of the code relation, or equal types, or neither denotes
 -- anything.
 abbrev pub EntryNames : Pairing → Remap → Inst → Inst → Space → ℕ → Type 0
 EntryNames R m i j Types x = SameType i j x (entry m Types x)
-EntryNames R m i j Functions x = AreNamesRelated R.named Functions i.funcs j.funcs x (entry m Functions x)
-EntryNames R m i j Tables x = AreNamesRelated R.named Tables i.tables j.tables x (entry m Tables x)
-EntryNames R m i j Memories x = AreNamesRelated R.named Memories i.mems j.mems x (entry m Memories x)
-EntryNames R m i j Globals x = AreNamesRelated R.named Globals i.globals j.globals x (entry m Globals x)
-EntryNames R m i j ElementSegments x = AreNamesRelated R.named ElementSegments i.elems j.elems x (entry m ElementSegments x)
-EntryNames R m i j DataSegments x = AreNamesRelated R.named DataSegments i.datas j.datas x (entry m DataSegments x)
+EntryNames R m i j Functions x = AreIndicesRelated R.named Functions i.funcs j.funcs x (entry m Functions x)
+EntryNames R m i j Tables x = AreIndicesRelated R.named Tables i.tables j.tables x (entry m Tables x)
+EntryNames R m i j Memories x = AreIndicesRelated R.named Memories i.mems j.mems x (entry m Memories x)
+EntryNames R m i j Globals x = AreIndicesRelated R.named Globals i.globals j.globals x (entry m Globals x)
+EntryNames R m i j ElementSegments x = AreIndicesRelated R.named ElementSegments i.elems j.elems x (entry m ElementSegments x)
+EntryNames R m i j DataSegments x = AreIndicesRelated R.named DataSegments i.datas j.datas x (entry m DataSegments x)
 
 -- `EntryNames` holds for each index that the layer itself names.
 abbrev pub LayerNames : Pairing → Remap → Inst → Inst → Instr-F Instr → Type 0

@@ -6,7 +6,7 @@ pub use Rattle.index_remap.specs.Laws.{Above, CodeIsRelatedToItself, EntriesKnow
 pub use Rattle.index_remap.specs.OpaqueRuns.{MoveSkips, NextMoveSkips, RunsStepTogether, TickSkips, calls_placeholder}
 pub use Rattle.index_remap.specs.References.{body_refs, declared, declared_refs, declaring, marked_only, offset_refs, outside_refs, referred, refs, refs_all, refs_step, with_declared}
 pub use Rattle.index_remap.specs.Related.{ActRel, ArgRel, BlockRel, BodyRel, BothRel, ChangeRel, CodeRel, ElemRel, EntryRel, FrameRel, FuncRel, GlobalRel, GrowthRel, LevelRel, ListRel}
-pub use Rattle.index_remap.specs.Related.{AreNamesRelated, NextKnown, NextRel, NotOpaque, OneToOne, OneToOneWhereWritten, OpRel, OptRel, Pairing, RefRel, ResRel, StoreRel, TableRel, TopKnown}
+pub use Rattle.index_remap.specs.Related.{AreIndicesRelated, NextKnown, NextRel, NotOpaque, OneToOne, OneToOneWhereWritten, OpRel, OptRel, Pairing, RefRel, ResRel, StoreRel, TableRel, TopKnown}
 pub use Rattle.index_remap.specs.Related.{TopSkips, ValRel, asked, asked_grow, asks_grow, both, calls, cons, defined, done, drop_data, drop_elem, empty, end, ended, ends, extern, func, goes, growing}
 pub use Rattle.index_remap.specs.Related.{indexed, instead, is_written, keep, loads, mark, memory_grows, nil, none, number, opening, own, ran, reference, returned, running, set_global, set_memory}
 pub use Rattle.index_remap.specs.Related.{set_table, slot, some, table_grows, then, trap, value, waiting, wrong}

@@ -52,8 +52,8 @@ pub data ValRel (R : Pairing) : Val → Val → Type 0 where
   reference : {r s : RefVal} → RefRel R r s → ValRel R (Ref r) (Ref s)
 
 -- The two indices denote addresses that `N` relates, or neither denotes one.
-abbrev pub AreNamesRelated : (Space → ℕ → ℕ → Type 0) → Space → List ℕ → List ℕ → ℕ → ℕ → Type 0
-AreNamesRelated N k xs ys n m = OptRel (N k) (slice_get xs n) (slice_get ys m)
+abbrev pub AreIndicesRelated : (Space → ℕ → ℕ → Type 0) → Space → List ℕ → List ℕ → ℕ → ℕ → Type 0
+AreIndicesRelated N k xs ys n m = OptRel (N k) (slice_get xs n) (slice_get ys m)
 
 abbrev pub SameType : Inst → Inst → ℕ → ℕ → Type 0
 SameType i j n m = slice_get i.types n ≡ slice_get j.types m
@@ -65,7 +65,7 @@ pub data BlockRel (i j : Inst) : BlockType → BlockType → Type 0 where
 
 pub record ArgRel (N : Space → ℕ → ℕ → Type 0) (i j : Inst) (a b : MemArg) : Type 0 where
   pub offset : a.offset ≡ b.offset
-  pub memory : AreNamesRelated N Memories i.mems j.mems a.memory b.memory
+  pub memory : AreIndicesRelated N Memories i.mems j.mems a.memory b.memory
 
 mutual
   -- The second instruction is the first with other indices. The next instruction (true) names
@@ -81,43 +81,43 @@ mutual
     br_if : {w : Bool} {n : ℕ} → OpRel R i j w (Instr-F.BrIf n) (Instr-F.BrIf n)
     br_table : {w : Bool} {ns : List ℕ} {n : ℕ} → OpRel R i j w (Instr-F.BrTable ns n) (Instr-F.BrTable ns n)
     return : {w : Bool} → OpRel R i j w Instr-F.Return Instr-F.Return
-    call : {w : Bool} {n m : ℕ} → AreNamesRelated (by R w) Functions i.funcs j.funcs n m → OpRel R i j w (Instr-F.Call n) (Instr-F.Call m)
-    call_indirect : {w : Bool} {s t n m : ℕ} → SameType i j s t → AreNamesRelated (by R w) Tables i.tables j.tables n m → OpRel R i j w (Instr-F.CallIndirect s n) (Instr-F.CallIndirect t m)
+    call : {w : Bool} {n m : ℕ} → AreIndicesRelated (by R w) Functions i.funcs j.funcs n m → OpRel R i j w (Instr-F.Call n) (Instr-F.Call m)
+    call_indirect : {w : Bool} {s t n m : ℕ} → SameType i j s t → AreIndicesRelated (by R w) Tables i.tables j.tables n m → OpRel R i j w (Instr-F.CallIndirect s n) (Instr-F.CallIndirect t m)
     drop : {w : Bool} → OpRel R i j w Instr-F.Drop Instr-F.Drop
     select : {w : Bool} → OpRel R i j w Instr-F.Select Instr-F.Select
     select_typed : {w : Bool} {ts : List ValType} → OpRel R i j w (Instr-F.SelectTyped ts) (Instr-F.SelectTyped ts)
     local_get : {w : Bool} {n : ℕ} → OpRel R i j w (Instr-F.LocalGet n) (Instr-F.LocalGet n)
     local_set : {w : Bool} {n : ℕ} → OpRel R i j w (Instr-F.LocalSet n) (Instr-F.LocalSet n)
     local_tee : {w : Bool} {n : ℕ} → OpRel R i j w (Instr-F.LocalTee n) (Instr-F.LocalTee n)
-    global_get : {w : Bool} {n m : ℕ} → AreNamesRelated (by R w) Globals i.globals j.globals n m → OpRel R i j w (Instr-F.GlobalGet n) (Instr-F.GlobalGet m)
-    global_set : {w : Bool} {n m : ℕ} → AreNamesRelated (by R w) Globals i.globals j.globals n m → OpRel R i j w (Instr-F.GlobalSet n) (Instr-F.GlobalSet m)
-    table_get : {w : Bool} {n m : ℕ} → AreNamesRelated (by R w) Tables i.tables j.tables n m → OpRel R i j w (Instr-F.TableGet n) (Instr-F.TableGet m)
-    table_set : {w : Bool} {n m : ℕ} → AreNamesRelated (by R w) Tables i.tables j.tables n m → OpRel R i j w (Instr-F.TableSet n) (Instr-F.TableSet m)
+    global_get : {w : Bool} {n m : ℕ} → AreIndicesRelated (by R w) Globals i.globals j.globals n m → OpRel R i j w (Instr-F.GlobalGet n) (Instr-F.GlobalGet m)
+    global_set : {w : Bool} {n m : ℕ} → AreIndicesRelated (by R w) Globals i.globals j.globals n m → OpRel R i j w (Instr-F.GlobalSet n) (Instr-F.GlobalSet m)
+    table_get : {w : Bool} {n m : ℕ} → AreIndicesRelated (by R w) Tables i.tables j.tables n m → OpRel R i j w (Instr-F.TableGet n) (Instr-F.TableGet m)
+    table_set : {w : Bool} {n m : ℕ} → AreIndicesRelated (by R w) Tables i.tables j.tables n m → OpRel R i j w (Instr-F.TableSet n) (Instr-F.TableSet m)
     load : {w : Bool} {o : LoadOp} {a b : MemArg} → ArgRel (by R w) i j a b → OpRel R i j w (Instr-F.Load o a) (Instr-F.Load o b)
     store : {w : Bool} {o : StoreOp} {a b : MemArg} → ArgRel (by R w) i j a b → OpRel R i j w (Instr-F.Store o a) (Instr-F.Store o b)
-    memory_size : {w : Bool} {n m : ℕ} → AreNamesRelated (by R w) Memories i.mems j.mems n m → OpRel R i j w (Instr-F.MemorySize n) (Instr-F.MemorySize m)
-    memory_grow : {w : Bool} {n m : ℕ} → AreNamesRelated (by R w) Memories i.mems j.mems n m → OpRel R i j w (Instr-F.MemoryGrow n) (Instr-F.MemoryGrow m)
+    memory_size : {w : Bool} {n m : ℕ} → AreIndicesRelated (by R w) Memories i.mems j.mems n m → OpRel R i j w (Instr-F.MemorySize n) (Instr-F.MemorySize m)
+    memory_grow : {w : Bool} {n m : ℕ} → AreIndicesRelated (by R w) Memories i.mems j.mems n m → OpRel R i j w (Instr-F.MemoryGrow n) (Instr-F.MemoryGrow m)
     i32_const : {w : Bool} {z : ℤ} → OpRel R i j w (Instr-F.I32Const z) (Instr-F.I32Const z)
     i64_const : {w : Bool} {z : ℤ} → OpRel R i j w (Instr-F.I64Const z) (Instr-F.I64Const z)
     un : {w : Bool} {o : UnOp} → OpRel R i j w (Instr-F.Un o) (Instr-F.Un o)
     bin : {w : Bool} {o : BinOp} → OpRel R i j w (Instr-F.Bin o) (Instr-F.Bin o)
     ref_null : {w : Bool} {t : RefType} → OpRel R i j w (Instr-F.RefNull t) (Instr-F.RefNull t)
     ref_is_null : {w : Bool} → OpRel R i j w Instr-F.RefIsNull Instr-F.RefIsNull
-    ref_func : {w : Bool} {n m : ℕ} → AreNamesRelated (by R w) Functions i.funcs j.funcs n m → OpRel R i j w (Instr-F.RefFunc n) (Instr-F.RefFunc m)
-    memory_init : {w : Bool} {s t n m : ℕ} → AreNamesRelated (by R w) DataSegments i.datas j.datas s t → AreNamesRelated (by R w) Memories i.mems j.mems n m →
+    ref_func : {w : Bool} {n m : ℕ} → AreIndicesRelated (by R w) Functions i.funcs j.funcs n m → OpRel R i j w (Instr-F.RefFunc n) (Instr-F.RefFunc m)
+    memory_init : {w : Bool} {s t n m : ℕ} → AreIndicesRelated (by R w) DataSegments i.datas j.datas s t → AreIndicesRelated (by R w) Memories i.mems j.mems n m →
         OpRel R i j w (Instr-F.MemoryInit s n) (Instr-F.MemoryInit t m)
-    data_drop : {w : Bool} {s t : ℕ} → AreNamesRelated (by R w) DataSegments i.datas j.datas s t → OpRel R i j w (Instr-F.DataDrop s) (Instr-F.DataDrop t)
-    memory_copy : {w : Bool} {s t n m : ℕ} → AreNamesRelated (by R w) Memories i.mems j.mems n m → AreNamesRelated (by R w) Memories i.mems j.mems s t →
+    data_drop : {w : Bool} {s t : ℕ} → AreIndicesRelated (by R w) DataSegments i.datas j.datas s t → OpRel R i j w (Instr-F.DataDrop s) (Instr-F.DataDrop t)
+    memory_copy : {w : Bool} {s t n m : ℕ} → AreIndicesRelated (by R w) Memories i.mems j.mems n m → AreIndicesRelated (by R w) Memories i.mems j.mems s t →
         OpRel R i j w (Instr-F.MemoryCopy n s) (Instr-F.MemoryCopy m t)
-    memory_fill : {w : Bool} {n m : ℕ} → AreNamesRelated (by R w) Memories i.mems j.mems n m → OpRel R i j w (Instr-F.MemoryFill n) (Instr-F.MemoryFill m)
-    table_init : {w : Bool} {s t n m : ℕ} → AreNamesRelated (by R w) ElementSegments i.elems j.elems s t → AreNamesRelated (by R w) Tables i.tables j.tables n m →
+    memory_fill : {w : Bool} {n m : ℕ} → AreIndicesRelated (by R w) Memories i.mems j.mems n m → OpRel R i j w (Instr-F.MemoryFill n) (Instr-F.MemoryFill m)
+    table_init : {w : Bool} {s t n m : ℕ} → AreIndicesRelated (by R w) ElementSegments i.elems j.elems s t → AreIndicesRelated (by R w) Tables i.tables j.tables n m →
         OpRel R i j w (Instr-F.TableInit s n) (Instr-F.TableInit t m)
-    elem_drop : {w : Bool} {s t : ℕ} → AreNamesRelated (by R w) ElementSegments i.elems j.elems s t → OpRel R i j w (Instr-F.ElemDrop s) (Instr-F.ElemDrop t)
-    table_copy : {w : Bool} {s t n m : ℕ} → AreNamesRelated (by R w) Tables i.tables j.tables n m → AreNamesRelated (by R w) Tables i.tables j.tables s t →
+    elem_drop : {w : Bool} {s t : ℕ} → AreIndicesRelated (by R w) ElementSegments i.elems j.elems s t → OpRel R i j w (Instr-F.ElemDrop s) (Instr-F.ElemDrop t)
+    table_copy : {w : Bool} {s t n m : ℕ} → AreIndicesRelated (by R w) Tables i.tables j.tables n m → AreIndicesRelated (by R w) Tables i.tables j.tables s t →
         OpRel R i j w (Instr-F.TableCopy n s) (Instr-F.TableCopy m t)
-    table_grow : {w : Bool} {n m : ℕ} → AreNamesRelated (by R w) Tables i.tables j.tables n m → OpRel R i j w (Instr-F.TableGrow n) (Instr-F.TableGrow m)
-    table_size : {w : Bool} {n m : ℕ} → AreNamesRelated (by R w) Tables i.tables j.tables n m → OpRel R i j w (Instr-F.TableSize n) (Instr-F.TableSize m)
-    table_fill : {w : Bool} {n m : ℕ} → AreNamesRelated (by R w) Tables i.tables j.tables n m → OpRel R i j w (Instr-F.TableFill n) (Instr-F.TableFill m)
+    table_grow : {w : Bool} {n m : ℕ} → AreIndicesRelated (by R w) Tables i.tables j.tables n m → OpRel R i j w (Instr-F.TableGrow n) (Instr-F.TableGrow m)
+    table_size : {w : Bool} {n m : ℕ} → AreIndicesRelated (by R w) Tables i.tables j.tables n m → OpRel R i j w (Instr-F.TableSize n) (Instr-F.TableSize m)
+    table_fill : {w : Bool} {n m : ℕ} → AreIndicesRelated (by R w) Tables i.tables j.tables n m → OpRel R i j w (Instr-F.TableFill n) (Instr-F.TableFill m)
 
   -- The second code is the first with other indices, of the code relation, and with other code in
   -- place of calls of opaque functions.

@@ -153,8 +153,14 @@ module _
 
     func_in : (i : ℕ) (x : Func) → slice_get m.funcs i ≡ Some x → FuncNumbersInRange x → FuncInRange x
     func_in i x e n =
-        let k = func_names i x e in (k.0, (n.0, and_from (all_operands_pass small_operand x.body) (all_numbers_in x.body) ((layers small_operand x.body).1 (operands_follow (λ o. spelled_operand o ≡ true) (λ o. small_operand o ≡ true) small_spelled x.body ((layers spelled_operand x.body).0 k.1)))
-            n.1))
+        let k = func_names i x e in (
+          k.0,
+          (
+            n.0,
+            and_from (all_operands_pass small_operand x.body) (all_numbers_in x.body) ((layers small_operand x.body).1 (operands_follow (λ o. spelled_operand o ≡ true) (λ o. small_operand o ≡ true) small_spelled x.body ((layers spelled_operand x.body).0 k.1)))
+                n.1,
+          ),
+        )
 
     pub tree_in : NumbersInRange m → InRange m
     tree_in n = record {

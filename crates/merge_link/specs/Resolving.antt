@@ -10,7 +10,7 @@ use Rattle.merge_spec.specs.declared.links.Read.{Read}
 use Rattle.merge_spec.specs.Faults as faults
 use Rattle.merge_spec.specs.Prelude.{read_at, named_modules}
 use Rattle.merge_link.specs.declared.part_tables.Ending.{Ending}
-use Rattle.merge_link.specs.declared.resolving.Kept.{Kept}
+use Rattle.merge_link.specs.declared.resolving.Kept.{LinkedImports}
 use Rattle.merge_link.specs.declared.sites.Site.{Site}
 use Rattle.merge_link.specs.Gathering.{AreLinkedEnds}
 use Rattle.merge_link.specs.PartTables.{AreKnown}
@@ -35,7 +35,7 @@ unfoldable pub kept_entry_at : List Part → Site → Option Limits
 kept_entry_at parts s = faults.kept_limits (named_modules parts) (the_site s)
 
 -- `kept` has the linked ends, and the limits that are kept
-pub record IsLinkedKept (parts : List Part) (sites : List Site) (kept : Kept) : Type 0 where
+pub record IsLinkedKept (parts : List Part) (sites : List Site) (kept : LinkedImports) : Type 0 where
   pub ends : AreLinkedEnds parts sites kept.linked.items
   pub limits : kept.limits.items ≡ map (kept_entry_at parts) sites
 
@@ -47,7 +47,7 @@ abbrev pub IsMatched : List Part → List Site → Result (Vec Ending Global) Li
 IsMatched parts sites (Ok ends) = AreKnown parts sites ends.items × (import_faults (named_modules parts) ≡ None)
 IsMatched parts sites (Err fault) = IsRefusal (import_faults (named_modules parts)) fault
 
-abbrev pub IsKept : List Part → List Site → Result Kept LinkFault → Type 0
+abbrev pub IsKept : List Part → List Site → Result LinkedImports LinkFault → Type 0
 IsKept parts sites (Ok kept) = IsLinkedKept parts sites kept × (clash_faults (named_modules parts) ≡ None)
 IsKept parts sites (Err fault) = IsRefusal (clash_faults (named_modules parts)) fault
 

@@ -22,7 +22,7 @@ use wasm_tree::Limits;
 
 /// The linked ends of imports, and the limits that they keep.
 #[derive(Drop)]
-pub struct Kept {
+pub struct LinkedImports {
     pub linked: Vec<Ending>,
     pub limits: Vec<Option<Limits>>,
 }
@@ -44,7 +44,12 @@ impl<'a> PartTables<'a> {
 
     // Returns the linked ends and the limits that are kept, or the fault of the first import whose
     // limits clash.
-    fn kept_ends(&self, alloc: Global, sites: &[Site], ends: &[Ending]) -> Result<Kept, LinkFault>
+    fn kept_ends(
+        &self,
+        alloc: Global,
+        sites: &[Site],
+        ends: &[Ending],
+    ) -> Result<LinkedImports, LinkFault>
         requires joining { ArePartTables self.now }
         requires sites { AreSites self.now.parts.now sites.now }
         requires ends { AreKnown self.now.parts.now sites.now ends.now }
@@ -54,7 +59,7 @@ impl<'a> PartTables<'a> {
         let limits = self.kept_limits(alloc, sites, &linked)?;
         match self.first_clash(sites, &limits) {
             Some(fault) => Err(fault),
-            None => Ok(Kept { linked, limits }),
+            None => Ok(LinkedImports { linked, limits }),
         }
     }
 
@@ -84,7 +89,7 @@ impl<'a> PartTables<'a> {
     fn written(
         &self,
         alloc: Global,
-        kept: &Kept,
+        kept: &LinkedImports,
         reads: &[Option<Read>],
         sites: &[Site],
     ) -> Result<Links, NoMemory>

@@ -21,7 +21,7 @@ fn has_mark(marks: &[bool], func: usize, mark: bool) -> bool
 }
 
 // If the function is wanted, adds it to `kept` if its body names a segment, else to `moved`.
-fn put_in_place(plan: &mut Plan, func: u32, wanted: bool, body: &[Instr]) -> Result<(), NoMemory>
+fn put_in_plan(plan: &mut Plan, func: u32, wanted: bool, body: &[Instr]) -> Result<(), NoMemory>
     ensures moved { OnOk result (plan.new.moved ≡ plan.old.moved ++ cond (wanted && not (uses_segment body.now)) (func ∷ []) []) }
     ensures kept { OnOk result (plan.new.kept ≡ plan.old.kept ++ cond (wanted && uses_segment body.now) (func ∷ []) []) }
 {
@@ -48,7 +48,7 @@ pub fn choose(alloc: Global, module: &Module, marks: &[bool], mark: bool) -> Res
     };
     for (at, func) in module.funcs.as_slice().iter().enumerate() {
         let wanted = has_mark(marks, first + at, mark);
-        put_in_place(&mut plan, (first + at) as u32, wanted, func.body.as_slice())?;
+        put_in_plan(&mut plan, (first + at) as u32, wanted, func.body.as_slice())?;
     }
     Ok(plan)
 }

@@ -13,7 +13,7 @@ use Rattle.wasm_tree.specs.declared.module.Func as tree
 use Rattle.wasm_tree.proofs.OperandLaws.{passes_both}
 use Rattle.wasm_meaning.specs.Prelude.{Inst, Environment}
 use Rattle.index_remap.specs.declared.remap.Remap.{Remap}
-use Rattle.index_remap.specs.Prelude.{EntryNames, Pairing, CodeRel, OptRel, AreNamesRelated, has_entry, renumbered_all, ReplacementCodesFit, OtherNamed, OthersNamed, is_opaque_call, slot_call}
+use Rattle.index_remap.specs.Prelude.{EntryNames, Pairing, CodeRel, OptRel, AreIndicesRelated, has_entry, renumbered_all, ReplacementCodesFit, OtherNamed, OthersNamed, is_opaque_call, slot_call}
 use Rattle.index_remap.proofs.NotOpaque.{operands_follow}
 use Rattle.split_plan.specs.Segments.{names_segment}
 use Rattle.split_spec.specs.declared.names.SplitNames.{SplitNames}
@@ -102,7 +102,7 @@ module _ (laws : Laws) (namespace : ℕ → List ℕ) (names : SplitNames) (m : 
     R = split_pairing env m moved loaded
 
     abbrev Both : Space → List ℕ → List ℕ → ℕ → ℕ → Type 0
-    Both = AreNamesRelated (Partnered env m moved)
+    Both = AreIndicesRelated (Partnered env m moved)
 
     below : (xs : ℕ) (x : ℕ) → nat_lt x (length (numbers 0 xs)) ≡ true → x < xs
     below xs x h = let l = ltb-true x (length (numbers 0 xs)) h in let e = length-numbers 0 xs in omega (arith, l, e)

@@ -2,7 +2,7 @@
 use Rattle.base_lists.proofs.Common.{◌≡◌, ◌∙◌, refl, ap, sym, subst, ℕ, ◌+◌, ◌*◌, List, [], Option, Some, None, Bool, true, false, arith}
 use Rattle.std.specs.List.{cons_option}
 use Rattle.base_simulation.specs.Machines.{IsPrefix, events_of}
-use Rattle.base_simulation.proofs.LedRuns.{LeadsSome, stuttering_simulation}
+use Rattle.base_simulation.proofs.StepwiseSimulation.{IsAnsweredBySome, stuttering_simulation}
 use Rattle.base_simulation.proofs.Prefixes.{is_prefix, more_events, prefix_trans}
 use Rattle.wasm_tree_spec.specs.Prelude.{Module}
 use Rattle.wasm_meaning.specs.Prelude.{Inst, Environment, LoaderRun, LoaderWorld, begun_under, events_loaded, fresh_loader, loader_made, tick_loader, Closed, Move, Opened, Out, Run, events, fresh_run, made, tick, transition, Begun, alone, instantiate}
@@ -45,7 +45,7 @@ module _ (laws : Laws) (steps : StepLaws) (alike : InstancesOfSplitsAreRelated) 
       going : (i j : Inst) → InstancesAreRelated env m moved i j → (loaded : List (ℕ × ℕ)) → Corresponds env m moved w i j loaded r q → Place r q
 
     abbrev LeadsToPlace : Run → LoaderRun → Type 0
-    LeadsToPlace = LeadsSome tick (tick_loader w) (most + 3) Place
+    LeadsToPlace = IsAnsweredBySome tick (tick_loader w) (most + 3) Place
 
     -- ---- runs that are over ----
 

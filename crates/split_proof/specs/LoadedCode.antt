@@ -4,7 +4,7 @@ use Rattle.std.specs.Prelude.{◌≡◌, ℕ, suc, ◌+◌, ◌-◌, ◌<◌, tr
 use Rattle.wasm_tree_spec.specs.Prelude.{Space, Functions, Tables, Memories, Globals, Module, imported_funcs, funcs_of, tables_of, memories_of, globals_of}
 use Rattle.wasm_tree.specs.declared.module.Func as tree
 use Rattle.wasm_meaning.specs.Prelude.{Inst, Store, Environment, new_func, insts_from, Added, primary_added}
-use Rattle.index_remap.specs.Prelude.{AreNamesRelated, StoreRel, CodeAt}
+use Rattle.index_remap.specs.Prelude.{AreIndicesRelated, StoreRel, CodeAt}
 use Rattle.world_simulation.specs.Prelude.{one}
 use Rattle.split_spec.specs.declared.names.SplitNames.{SplitNames}
 use Rattle.split_spec.specs.Prelude.{slot_table, is_left, primary_map, HasSlots}
@@ -24,10 +24,10 @@ Partnered env m moved k a b = IsTrue (is_partner env m moved k a b)
 pub record InstancesAreRelated (env : Environment) (m : Module) (moved : List ℕ) (first primary : Inst) : Type 0 where
   pub first_types : first.types ≡ m.types
   pub types : primary.types ≡ m.types
-  pub funcs : (x : ℕ) → x < length (funcs_of m) → is_left m moved x ≡ true → AreNamesRelated (Partnered env m moved) Functions first.funcs primary.funcs x (slice_index (primary_map m moved).funcs x)
-  pub tables : (x : ℕ) → x < length (tables_of m) → AreNamesRelated (Partnered env m moved) Tables first.tables primary.tables x x
-  pub mems : (x : ℕ) → x < length (memories_of m) → AreNamesRelated (Partnered env m moved) Memories first.mems primary.mems x x
-  pub globals : (x : ℕ) → x < length (globals_of m) → AreNamesRelated (Partnered env m moved) Globals first.globals primary.globals x x
+  pub funcs : (x : ℕ) → x < length (funcs_of m) → is_left m moved x ≡ true → AreIndicesRelated (Partnered env m moved) Functions first.funcs primary.funcs x (slice_index (primary_map m moved).funcs x)
+  pub tables : (x : ℕ) → x < length (tables_of m) → AreIndicesRelated (Partnered env m moved) Tables first.tables primary.tables x x
+  pub mems : (x : ℕ) → x < length (memories_of m) → AreIndicesRelated (Partnered env m moved) Memories first.mems primary.mems x x
+  pub globals : (x : ℕ) → x < length (globals_of m) → AreIndicesRelated (Partnered env m moved) Globals first.globals primary.globals x x
   pub slots : slice_get primary.tables (slot_table m) ≡ Some (slot_table_address env m)
   pub moves : (p f : ℕ) → slice_get moved p ≡ Some f → slice_get first.funcs f ≡ Some (defined_address env m f)
 

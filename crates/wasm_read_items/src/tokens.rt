@@ -213,7 +213,7 @@ fn read_variable(cursor: &mut Cursor<'_>, opcode: u8, pile: &mut Pile) -> Result
 /// Reads the rest of an instruction on the size of a memory, or of a constant (WebAssembly Core
 /// 2.0, sections 5.4.6 and 5.4.7).
 #[tactic(auto, unfolding(wasm_read_spec::specs::BodyReading::simple_of, wasm_read_spec::specs::Tokens::rest_form))]
-fn read_size(
+fn read_size_or_constant(
     cursor: &mut Cursor<'_>,
     many: bool,
     opcode: u8,
@@ -299,7 +299,7 @@ fn read_rest(
     match opcode {
         0x00..=0x1F => read_control(alloc, cursor, opcode, pile),
         0x20..=0x26 => read_variable(cursor, opcode, pile),
-        0x3F..=0x42 => read_size(cursor, many, opcode, pile),
+        0x3F..=0x42 => read_size_or_constant(cursor, many, opcode, pile),
         0xD0..=0xD2 => read_reference(alloc, cursor, opcode, pile),
         0xFC => read_prefixed(cursor, many, pile),
         0x2A..=0x2B

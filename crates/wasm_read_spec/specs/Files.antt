@@ -108,8 +108,19 @@ typed (t ∷ ts) (f ∷ fs) = record f { ty = t } ∷ typed ts fs
 
 -- The tree that the parts make.
 abbrev pub tree_of : Parts → Module
-tree_of p = record { types = p.types; imports = p.imports; funcs = typed p.func_types p.codes; tables = p.tables; mems = p.mems; globals = p.globals; exports = p.exports; start = p.start; elems =
-    p.elems; datas = p.datas }
+tree_of p = record {
+  types = p.types;
+  imports = p.imports;
+  funcs = typed p.func_types p.codes;
+  tables = p.tables;
+  mems = p.mems;
+  globals = p.globals;
+  exports = p.exports;
+  start = p.start;
+  elems =
+      p.elems;
+  datas = p.datas;
+}
 
 -- The bytes of the file encode the tree. If `many` is true, memories have indices in bodies.
 abbrev pub Spells : List ℕ → Module → Bool → Type 0

@@ -91,7 +91,7 @@ rest_form b =
     (if b == 0xD2 then number RefFunc else
     (if b == 0xFC then prefixed else
     (if (nat_le 0x2A b && nat_le b 0x2B) || (nat_le 0x38 b && nat_le b 0x39) || (nat_le 0x43 b && nat_le b 0x44) || (nat_le 0x5B b && nat_le b 0x66) || (nat_le 0x8B b && nat_le b 0xA6) ||
-        (nat_le 0xA8 b && nat_le b 0xAB) || (nat_le 0xAE b && nat_le b 0xBF) || (nat_le 0xFD b && nat_le b 0xFD) then unsupported else
+    (nat_le 0xA8 b && nat_le b 0xAB) || (nat_le 0xAE b && nat_le b 0xBF) || (nat_le 0xFD b && nat_le b 0xFD) then unsupported else
     unknown))))))))))))))))))))))))))))))))
 
 unfoldable pub the_form : ℕ → Form

@@ -6,7 +6,7 @@ use Rattle.std.proofs.Math.Seq.{drop-append_seam}
 use Rattle.wasm_tree_spec.specs.Prelude.{ValType, same_type, same_types}
 use Rattle.wasm_valid_bodies.specs.Typing.{Stack, operands}
 use Rattle.wasm_valid_bodies.specs.Tracking.{fits_type, pop_all}
-use Rattle.wasm_valid_bodies.specs.Kept.{lowest, when}
+use Rattle.wasm_valid_bodies.specs.OperandStack.{lowest, when}
 
 -- ---- what is taken off ----
 

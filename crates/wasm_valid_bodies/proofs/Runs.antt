@@ -8,7 +8,7 @@ use Rattle.std.specs.Bool.{OnTrue}
 use Rattle.std.specs.declared.alloc.AllocError.{AllocError}
 use Rattle.wasm_valid_bodies.specs.Typing.{Stack, AllMatch, operands, Effect, Gives, Acts, Signature, Context, under, signature_of, effect_of, LeadsToMatch, ActsAs, Fits, Leads, LeadsAll, WellTyped}
 use Rattle.wasm_valid_bodies.specs.Tracking.{Instance, Concrete, StepsTo, LeadsNowhere, TracksStep, pop_all, act, answer_of}
-use Rattle.wasm_valid_bodies.specs.Kept.{when}
+use Rattle.wasm_valid_bodies.specs.OperandStack.{when}
 use Rattle.wasm_valid_bodies.proofs.Rows.{to_list, to_row}
 use Rattle.wasm_valid_bodies.proofs.Pops.{pop_all-on, pop_all-back, padded}
 use Rattle.wasm_valid_bodies.proofs.Acts.{act-on, act-back}
@@ -65,7 +65,7 @@ pub block_arm : (c : Context) (bt : BlockType) (v : List Instr) (f : Signature) 
     TracksStep (Fits c (Block bt v)) xs o ys p ok
 block_arm c bt v f xs o ys p ok sig w h =
     follows_map (Acts (Gives f.params f.results)) (Fits c (Block bt v)) (λ s t a. (f, sym sig, ends_from (under c f.results) v f.params f.results w, a)) (λ s t (g, e, l, a). subst (λ z. Acts (Gives z.params z.results) s t) (same_signature _ f g sig e) a) xs o ys p ok
-        (follows_acts (Gives f.params f.results) xs o ys p ok h)
+    (follows_acts (Gives f.params f.results) xs o ys p ok h)
 
 pub block_stop : (c : Context) (bt : BlockType) (v : List Instr) (f : Signature) (xs : Stack) (o : Bool) → Some f ≡ signature_of c.types bt → (WellTyped (under c f.results) v f.params f.results → ⊥) → LeadsNowhere (Fits c (Block bt v)) xs o
 block_stop c bt v f xs o sig never s t i (g, e, l, a) =
@@ -75,7 +75,7 @@ pub loop_arm : (c : Context) (bt : BlockType) (v : List Instr) (f : Signature) (
     TracksStep (Fits c (Loop bt v)) xs o ys p ok
 loop_arm c bt v f xs o ys p ok sig w h =
     follows_map (Acts (Gives f.params f.results)) (Fits c (Loop bt v)) (λ s t a. (f, sym sig, ends_from (under c f.params) v f.params f.results w, a)) (λ s t (g, e, l, a). subst (λ z. Acts (Gives z.params z.results) s t) (same_signature _ f g sig e) a) xs o ys p ok
-        (follows_acts (Gives f.params f.results) xs o ys p ok h)
+    (follows_acts (Gives f.params f.results) xs o ys p ok h)
 
 pub loop_stop : (c : Context) (bt : BlockType) (v : List Instr) (f : Signature) (xs : Stack) (o : Bool) → Some f ≡ signature_of c.types bt → (WellTyped (under c f.params) v f.params f.results → ⊥) → LeadsNowhere (Fits c (Loop bt v)) xs o
 loop_stop c bt v f xs o sig never s t i (g, e, l, a) =
@@ -85,7 +85,7 @@ pub if_arm : (c : Context) (bt : BlockType) (v w : List Instr) (f : Signature) (
     act (Gives (f.params ++ I32 ∷ []) f.results) xs o ≡ when ok (ys, p) → TracksStep (Fits c (If bt v w)) xs o ys p ok
 if_arm c bt v w f xs o ys p ok sig vt wt h =
     follows_map (Acts (Gives (f.params ++ I32 ∷ []) f.results)) (Fits c (If bt v w)) (λ s t a. (f, sym sig, ends_from (under c f.results) v f.params f.results vt, ends_from (under c f.results) w f.params f.results wt, a))
-        (λ s t (g, e, l, m, a). subst (λ z. Acts (Gives (z.params ++ I32 ∷ []) z.results) s t) (same_signature _ f g sig e) a) xs o ys p ok (follows_acts (Gives (f.params ++ I32 ∷ []) f.results) xs o ys p ok h)
+    (λ s t (g, e, l, m, a). subst (λ z. Acts (Gives (z.params ++ I32 ∷ []) z.results) s t) (same_signature _ f g sig e) a) xs o ys p ok (follows_acts (Gives (f.params ++ I32 ∷ []) f.results) xs o ys p ok h)
 
 pub then_stop : (c : Context) (bt : BlockType) (v w : List Instr) (f : Signature) (xs : Stack) (o : Bool) → Some f ≡ signature_of c.types bt → (WellTyped (under c f.results) v f.params f.results → ⊥) → LeadsNowhere (Fits c (If bt v w)) xs o
 then_stop c bt v w f xs o sig never s t i (g, e, l, m, a) =

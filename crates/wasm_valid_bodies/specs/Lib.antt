@@ -1,7 +1,7 @@
 pub mod Ops
 pub mod Typing
 pub mod Tracking
-pub mod Kept
+pub mod OperandStack
 pub mod Labels
 pub mod Groups
 pub mod LocalTypes

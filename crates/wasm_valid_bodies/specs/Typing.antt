@@ -222,7 +222,7 @@ abbrev mutual
       (f : Signature) × (signature_of c.types bt ≡ Some f) × LeadsToMatch (Leads (under c f.params) body) f.params f.results × Acts (Gives f.params f.results) s t
   Fits c (If' bt n body m other) s t =
       (f : Signature) × (signature_of c.types bt ≡ Some f) × LeadsToMatch (Leads (under c f.results) body) f.params f.results × LeadsToMatch (Leads (under c f.results) other) f.params f.results ×
-          Acts (Gives (f.params ++ I32 ∷ []) f.results) s t
+      Acts (Gives (f.params ++ I32 ∷ []) f.results) s t
   Fits c Unreachable s t = ActsAs (effect_of c Unreachable) s t
   Fits c Nop s t = ActsAs (effect_of c Nop) s t
   Fits c (Br l) s t = ActsAs (effect_of c (Br l)) s t

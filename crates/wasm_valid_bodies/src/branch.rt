@@ -3,11 +3,11 @@
 ghost use Rattle.std.specs.Prelude.{◌≡◌, ◌∷◌, slice_get, slice_set, Some, true, IfOk, IsTrue, option_map};
 ghost use Rattle.wasm_valid_bodies.specs.Typing.{Branches, labels_at};
 ghost use Rattle.wasm_valid_bodies.specs.Tracking.{allows_types, allows_all};
-ghost use Rattle.wasm_valid_bodies.specs.Kept.{stack_of, AnswersEffect};
+ghost use Rattle.wasm_valid_bodies.specs.OperandStack.{stack_of, AnswersEffect};
 ghost use Rattle.wasm_valid_bodies.specs.Labels.{label_list};
 
-use crate::kept::Kept;
 use crate::labels::Labels;
+use crate::operand_stack::OperandStack;
 use std::alloc::{AllocError, Global};
 use wasm_tree::ValType;
 
@@ -28,7 +28,7 @@ fn mark(seen: &mut Vec<bool>, place: u32)
     }
 }
 
-impl Kept {
+impl OperandStack {
     // Returns whether the operands match a label of `n` types.
     fn allows(&self, labels: &Labels<'_>, n: usize, label: u32) -> bool
         ensures { result ≡ allows_types (stack_of self.now) self.now.any_below n (slice_get (label_list labels.now) label) }

@@ -4,12 +4,12 @@ ghost use Rattle.std.specs.Prelude.{◌≡◌, ◌↔◌, ◌∷◌, [], IfOk, I
 ghost use Rattle.std.specs.Bool.{OnTrue};
 ghost use Rattle.wasm_valid_bodies.specs.Typing.{Fits, WellTyped};
 ghost use Rattle.wasm_valid_bodies.specs.Tracking.{TracksStep};
-ghost use Rattle.wasm_valid_bodies.specs.Kept.{stack_of, beneath, IsBack};
+ghost use Rattle.wasm_valid_bodies.specs.OperandStack.{stack_of, beneath, IsBack};
 ghost use Rattle.wasm_valid_bodies.specs.Labels.{label_list};
 ghost use Rattle.wasm_valid_bodies.specs.ScopeContexts.{context_of};
 
-use crate::kept::Kept;
 use crate::labels::Labels;
+use crate::operand_stack::OperandStack;
 use crate::plain::plain;
 use crate::scope::{Scope, Shape, shape_of};
 use std::alloc::{AllocError, Global};
@@ -21,12 +21,12 @@ fn step<'a>(
     alloc: Global,
     scope: &Scope<'a>,
     labels: &mut Labels<'a>,
-    kept: &mut Kept,
+    stack: &mut OperandStack,
     instr: &'a Instr,
 ) -> Result<bool, AllocError>
-    ensures typed { IfOk result (λ ok. TracksStep (Fits (context_of scope.now (label_list labels.old)) instr.now) (stack_of kept.old) kept.old.any_below (stack_of kept.new) kept.new.any_below ok) }
+    ensures typed { IfOk result (λ ok. TracksStep (Fits (context_of scope.now (label_list labels.old)) instr.now) (stack_of stack.old) stack.old.any_below (stack_of stack.new) stack.new.any_below ok) }
     ensures labels { IfOk result (λ ok. OnTrue ok (label_list labels.new ≡ label_list labels.old)) }
-    ensures beneath { IfOk result (λ ok. OnTrue ok (beneath kept.new ≡ beneath kept.old)) }
+    ensures beneath { IfOk result (λ ok. OnTrue ok (beneath stack.new ≡ beneath stack.old)) }
 {
     match instr {
         Instr::Block(block, body) => {
@@ -34,20 +34,20 @@ fn step<'a>(
             let Some(shape) = shape_of(scope.types, block) else {
                 return Ok(false);
             };
-            if !is_well_typed(alloc, scope, labels, kept, shape.results, shape, body)? {
+            if !is_well_typed(alloc, scope, labels, stack, shape.results, shape, body)? {
                 return Ok(false);
             }
-            kept.gives(shape.params, shape.results)
+            stack.gives(shape.params, shape.results)
         }
         Instr::Loop(block, body) => {
             let body = body.as_slice();
             let Some(shape) = shape_of(scope.types, block) else {
                 return Ok(false);
             };
-            if !is_well_typed(alloc, scope, labels, kept, shape.params, shape, body)? {
+            if !is_well_typed(alloc, scope, labels, stack, shape.params, shape, body)? {
                 return Ok(false);
             }
-            kept.gives(shape.params, shape.results)
+            stack.gives(shape.params, shape.results)
         }
         Instr::If(block, body, other) => {
             let body = body.as_slice();
@@ -55,15 +55,15 @@ fn step<'a>(
             let Some(shape) = shape_of(scope.types, block) else {
                 return Ok(false);
             };
-            if !is_well_typed(alloc, scope, labels, kept, shape.results, shape, body)? {
+            if !is_well_typed(alloc, scope, labels, stack, shape.results, shape, body)? {
                 return Ok(false);
             }
-            if !is_well_typed(alloc, scope, labels, kept, shape.results, shape, other)? {
+            if !is_well_typed(alloc, scope, labels, stack, shape.results, shape, other)? {
                 return Ok(false);
             }
-            kept.gives_over(shape.params, ValType::I32, shape.results)
+            stack.gives_over(shape.params, ValType::I32, shape.results)
         }
-        _ => plain(alloc, scope, labels, kept, instr),
+        _ => plain(alloc, scope, labels, stack, instr),
     }
 }
 
@@ -74,25 +74,25 @@ fn is_well_typed<'a>(
     alloc: Global,
     scope: &Scope<'a>,
     labels: &mut Labels<'a>,
-    kept: &mut Kept,
+    stack: &mut OperandStack,
     label: &'a [ValType],
     shape: Shape<'a>,
     body: &'a [Instr],
 ) -> Result<bool, AllocError>
     ensures typed { IfOk result (λ ok. IsTrue ok ↔ WellTyped (context_of scope.now (label.now ∷ label_list labels.old)) body.now shape.entry.params.now shape.entry.results.now) }
     ensures labels { IfOk result (λ ok. OnTrue ok (label_list labels.new ≡ label_list labels.old)) }
-    ensures kept { IfOk result (λ ok. OnTrue ok (IsBack kept.old kept.new)) }
+    ensures back { IfOk result (λ ok. OnTrue ok (IsBack stack.old stack.new)) }
 {
     labels.open(label)?;
-    let outer = kept.enter(shape.params)?;
+    let outer = stack.enter(shape.params)?;
     for instr in body {
-        if !step(alloc, scope, labels, kept, instr)? {
+        if !step(alloc, scope, labels, stack, instr)? {
             return Ok(false);
         }
     }
     labels.close();
-    let ends = kept.ends(shape.results);
-    kept.leave(outer);
+    let ends = stack.ends(shape.results);
+    stack.leave(outer);
     Ok(ends)
 }
 
@@ -100,18 +100,18 @@ fn is_well_typed<'a>(
 #[derive(Drop)]
 pub struct Stacks<'a> {
     labels: Labels<'a>,
-    kept: Kept,
+    stack: OperandStack,
 }
 
 impl<'a> Stacks<'a> {
     /// Returns stacks without labels and operands. Only checking a body allocates.
     pub fn new(alloc: Global) -> Stacks<'a>
         ensures labels { label_list result.labels ≡ [] }
-        ensures operands { stack_of result.kept ≡ [] }
+        ensures operands { stack_of result.stack ≡ [] }
     {
         Stacks {
             labels: Labels::new(alloc),
-            kept: Kept::new(alloc),
+            stack: OperandStack::new(alloc),
         }
     }
 }
@@ -128,12 +128,12 @@ pub fn is_well_typed_body<'a>(
     ensures { IfOk result (λ ok. IsTrue ok ↔ WellTyped (context_of scope.now (scope.now.results.now ∷ [])) body.now [] scope.now.results.now) }
 {
     let labels = &mut stacks.labels;
-    let kept = &mut stacks.kept;
+    let stack = &mut stacks.stack;
     labels.clear();
-    kept.clear();
+    stack.clear();
     let shape = Shape {
         params: &[],
         results: scope.results,
     };
-    is_well_typed(alloc, scope, labels, kept, scope.results, shape, body)
+    is_well_typed(alloc, scope, labels, stack, scope.results, shape, body)
 }

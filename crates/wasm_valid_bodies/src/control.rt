@@ -3,22 +3,22 @@
 ghost use Rattle.std.specs.Prelude.{[], IfOk};
 ghost use Rattle.wasm_tree.specs.declared.instr.Instr.TheVariants.{Br, BrIf, Call, CallIndirect};
 ghost use Rattle.wasm_valid_bodies.specs.Typing.{effect_of};
-ghost use Rattle.wasm_valid_bodies.specs.Kept.{AnswersEffect};
+ghost use Rattle.wasm_valid_bodies.specs.OperandStack.{AnswersEffect};
 ghost use Rattle.wasm_valid_bodies.specs.Labels.{label_list};
 ghost use Rattle.wasm_valid_bodies.specs.ScopeContexts.{context_of};
 
-use crate::kept::Kept;
 use crate::labels::Labels;
+use crate::operand_stack::OperandStack;
 use crate::scope::Scope;
 use std::alloc::AllocError;
 use wasm_tree::{RefType, ValType};
 
 /// `br`.
-pub fn branch(scope: &Scope<'_>, labels: &Labels<'_>, kept: &mut Kept, label: u32) -> bool
-    ensures { AnswersEffect (effect_of (context_of scope.now (label_list labels.now)) (Br label)) kept.old kept.new result }
+pub fn branch(scope: &Scope<'_>, labels: &Labels<'_>, stack: &mut OperandStack, label: u32) -> bool
+    ensures { AnswersEffect (effect_of (context_of scope.now (label_list labels.now)) (Br label)) stack.old stack.new result }
 {
     match labels.types_at(label) {
-        Some(types) => kept.leaves(types),
+        Some(types) => stack.leaves(types),
         None => false,
     }
 }
@@ -27,23 +27,23 @@ pub fn branch(scope: &Scope<'_>, labels: &Labels<'_>, kept: &mut Kept, label: u3
 pub fn branch_if(
     scope: &Scope<'_>,
     labels: &Labels<'_>,
-    kept: &mut Kept,
+    stack: &mut OperandStack,
     label: u32,
 ) -> Result<bool, AllocError>
-    ensures { IfOk result (λ ok. AnswersEffect (effect_of (context_of scope.now (label_list labels.now)) (BrIf label)) kept.old kept.new ok) }
+    ensures { IfOk result (λ ok. AnswersEffect (effect_of (context_of scope.now (label_list labels.now)) (BrIf label)) stack.old stack.new ok) }
 {
     match labels.types_at(label) {
-        Some(types) => kept.gives_over(types, ValType::I32, types),
+        Some(types) => stack.gives_over(types, ValType::I32, types),
         None => Ok(false),
     }
 }
 
 /// `call`.
-pub fn call(scope: &Scope<'_>, kept: &mut Kept, func: u32) -> Result<bool, AllocError>
-    ensures { IfOk result (λ ok. AnswersEffect (effect_of (context_of scope.now []) (Call func)) kept.old kept.new ok) }
+pub fn call(scope: &Scope<'_>, stack: &mut OperandStack, func: u32) -> Result<bool, AllocError>
+    ensures { IfOk result (λ ok. AnswersEffect (effect_of (context_of scope.now []) (Call func)) stack.old stack.new ok) }
 {
     match scope.type_of_func(func) {
-        Some(ty) => kept.gives(ty.params.as_slice(), ty.results.as_slice()),
+        Some(ty) => stack.gives(ty.params.as_slice(), ty.results.as_slice()),
         None => Ok(false),
     }
 }
@@ -51,17 +51,17 @@ pub fn call(scope: &Scope<'_>, kept: &mut Kept, func: u32) -> Result<bool, Alloc
 /// `call_indirect`.
 pub fn call_indirect(
     scope: &Scope<'_>,
-    kept: &mut Kept,
+    stack: &mut OperandStack,
     ty: u32,
     table: u32,
 ) -> Result<bool, AllocError>
-    ensures { IfOk result (λ ok. AnswersEffect (effect_of (context_of scope.now []) (CallIndirect ty table)) kept.old kept.new ok) }
+    ensures { IfOk result (λ ok. AnswersEffect (effect_of (context_of scope.now []) (CallIndirect ty table)) stack.old stack.new ok) }
 {
     let Some(RefType::Func) = scope.tables.get(table as usize) else {
         return Ok(false);
     };
     match scope.types.get(ty as usize) {
-        Some(ty) => kept.gives_over(ty.params.as_slice(), ValType::I32, ty.results.as_slice()),
+        Some(ty) => stack.gives_over(ty.params.as_slice(), ValType::I32, ty.results.as_slice()),
         None => Ok(false),
     }
 }

@@ -5,11 +5,11 @@
 mod branch;
 mod check;
 mod control;
-mod kept;
 mod labels;
 mod laws;
 mod locals;
 mod memories;
+mod operand_stack;
 mod operands;
 mod plain;
 mod scope;

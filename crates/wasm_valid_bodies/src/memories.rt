@@ -3,10 +3,10 @@
 ghost use Rattle.std.specs.Prelude.{◌≡◌, ◌≤◌, ◌^◌, nat_le, [], IfOk};
 ghost use Rattle.wasm_tree.specs.declared.instr.Instr.TheVariants.{Load, Store, MemorySize, MemoryGrow, MemoryFill, MemoryCopy, MemoryInit};
 ghost use Rattle.wasm_valid_bodies.specs.Typing.{effect_of, fits_memory};
-ghost use Rattle.wasm_valid_bodies.specs.Kept.{AnswersEffect};
+ghost use Rattle.wasm_valid_bodies.specs.OperandStack.{AnswersEffect};
 ghost use Rattle.wasm_valid_bodies.specs.ScopeContexts.{context_of};
 
-use crate::kept::Kept;
+use crate::operand_stack::OperandStack;
 use crate::scope::Scope;
 use crate::types::{load_type, load_width, store_type, store_width};
 use std::alloc::AllocError;
@@ -37,15 +37,15 @@ fn fits_memory(scope: &Scope<'_>, width: u32, arg: &MemArg) -> bool
 /// The loads.
 pub fn load(
     scope: &Scope<'_>,
-    kept: &mut Kept,
+    stack: &mut OperandStack,
     op: LoadOp,
     arg: &MemArg,
 ) -> Result<bool, AllocError>
-    ensures { IfOk result (λ ok. AnswersEffect (effect_of (context_of scope.now []) (Load op arg.now)) kept.old kept.new ok) }
+    ensures { IfOk result (λ ok. AnswersEffect (effect_of (context_of scope.now []) (Load op arg.now)) stack.old stack.new ok) }
 {
     let fits = fits_memory(scope, load_width(op), arg);
     if fits {
-        kept.turns(ValType::I32, load_type(op))
+        stack.unary(ValType::I32, load_type(op))
     } else {
         Ok(false)
     }
@@ -54,60 +54,72 @@ pub fn load(
 /// The stores.
 pub fn store(
     scope: &Scope<'_>,
-    kept: &mut Kept,
+    stack: &mut OperandStack,
     op: StoreOp,
     arg: &MemArg,
 ) -> Result<bool, AllocError>
-    ensures { IfOk result (λ ok. AnswersEffect (effect_of (context_of scope.now []) (Store op arg.now)) kept.old kept.new ok) }
+    ensures { IfOk result (λ ok. AnswersEffect (effect_of (context_of scope.now []) (Store op arg.now)) stack.old stack.new ok) }
 {
     let fits = fits_memory(scope, store_width(op), arg);
-    kept.gives_where(fits, &[ValType::I32, store_type(op)], &[])
+    stack.gives_where(fits, &[ValType::I32, store_type(op)], &[])
 }
 
 /// `memory.size`.
-pub fn memory_size(scope: &Scope<'_>, kept: &mut Kept, memory: u32) -> Result<bool, AllocError>
-    ensures { IfOk result (λ ok. AnswersEffect (effect_of (context_of scope.now []) (MemorySize memory)) kept.old kept.new ok) }
+pub fn memory_size(
+    scope: &Scope<'_>,
+    stack: &mut OperandStack,
+    memory: u32,
+) -> Result<bool, AllocError>
+    ensures { IfOk result (λ ok. AnswersEffect (effect_of (context_of scope.now []) (MemorySize memory)) stack.old stack.new ok) }
 {
-    kept.gives_where(scope.has_memory(memory), &[], &[ValType::I32])
+    stack.gives_where(scope.has_memory(memory), &[], &[ValType::I32])
 }
 
 /// `memory.grow`.
-pub fn memory_grow(scope: &Scope<'_>, kept: &mut Kept, memory: u32) -> Result<bool, AllocError>
-    ensures { IfOk result (λ ok. AnswersEffect (effect_of (context_of scope.now []) (MemoryGrow memory)) kept.old kept.new ok) }
+pub fn memory_grow(
+    scope: &Scope<'_>,
+    stack: &mut OperandStack,
+    memory: u32,
+) -> Result<bool, AllocError>
+    ensures { IfOk result (λ ok. AnswersEffect (effect_of (context_of scope.now []) (MemoryGrow memory)) stack.old stack.new ok) }
 {
-    kept.gives_where(scope.has_memory(memory), &[ValType::I32], &[ValType::I32])
+    stack.gives_where(scope.has_memory(memory), &[ValType::I32], &[ValType::I32])
 }
 
 /// `memory.fill`.
-pub fn memory_fill(scope: &Scope<'_>, kept: &mut Kept, memory: u32) -> Result<bool, AllocError>
-    ensures { IfOk result (λ ok. AnswersEffect (effect_of (context_of scope.now []) (MemoryFill memory)) kept.old kept.new ok) }
+pub fn memory_fill(
+    scope: &Scope<'_>,
+    stack: &mut OperandStack,
+    memory: u32,
+) -> Result<bool, AllocError>
+    ensures { IfOk result (λ ok. AnswersEffect (effect_of (context_of scope.now []) (MemoryFill memory)) stack.old stack.new ok) }
 {
     let found = scope.has_memory(memory);
-    kept.gives_where(found, &[ValType::I32, ValType::I32, ValType::I32], &[])
+    stack.gives_where(found, &[ValType::I32, ValType::I32, ValType::I32], &[])
 }
 
 /// `memory.copy`.
 pub fn memory_copy(
     scope: &Scope<'_>,
-    kept: &mut Kept,
+    stack: &mut OperandStack,
     to: u32,
     from: u32,
 ) -> Result<bool, AllocError>
-    ensures { IfOk result (λ ok. AnswersEffect (effect_of (context_of scope.now []) (MemoryCopy to from)) kept.old kept.new ok) }
+    ensures { IfOk result (λ ok. AnswersEffect (effect_of (context_of scope.now []) (MemoryCopy to from)) stack.old stack.new ok) }
 {
     let found = scope.has_memory(to) && scope.has_memory(from);
-    kept.gives_where(found, &[ValType::I32, ValType::I32, ValType::I32], &[])
+    stack.gives_where(found, &[ValType::I32, ValType::I32, ValType::I32], &[])
 }
 
 /// `memory.init`.
 pub fn memory_init(
     scope: &Scope<'_>,
-    kept: &mut Kept,
+    stack: &mut OperandStack,
     segment: u32,
     memory: u32,
 ) -> Result<bool, AllocError>
-    ensures { IfOk result (λ ok. AnswersEffect (effect_of (context_of scope.now []) (MemoryInit segment memory)) kept.old kept.new ok) }
+    ensures { IfOk result (λ ok. AnswersEffect (effect_of (context_of scope.now []) (MemoryInit segment memory)) stack.old stack.new ok) }
 {
     let found = scope.has_data(segment) && scope.has_memory(memory);
-    kept.gives_where(found, &[ValType::I32, ValType::I32, ValType::I32], &[])
+    stack.gives_where(found, &[ValType::I32, ValType::I32, ValType::I32], &[])
 }

@@ -4,9 +4,9 @@ ghost use Rattle.std.specs.Prelude.{◌≡◌, false, min, ◌↔◌, ◌≤◌,
 ghost use Rattle.wasm_tree.specs.SameTypes.{same_ref, same_type, same_types};
 ghost use Rattle.wasm_valid_bodies.specs.Typing.{operands, only, Gives, Leaves, Drops, Selects, TestsNull};
 ghost use Rattle.wasm_valid_bodies.specs.Tracking.{pop_one, pop_type, pop_all, chosen, letter};
-ghost use Rattle.wasm_valid_bodies.specs.Kept.{lowest, stack_of, beneath, when, AnswersEffect, IsInside};
+ghost use Rattle.wasm_valid_bodies.specs.OperandStack.{lowest, stack_of, beneath, when, AnswersEffect, IsInside};
 
-use crate::kept::{Kept, Outer};
+use crate::operand_stack::{OperandStack, Outer};
 use std::alloc::{AllocError, Global};
 use wasm_tree::{RefType, ValType};
 
@@ -57,14 +57,14 @@ fn are_same(left: &[ValType], right: &[ValType]) -> bool
     true
 }
 
-impl Kept {
+impl OperandStack {
     /// Returns a stack without operands and blocks. Only pushing operands allocates.
-    pub fn new(alloc: Global) -> Kept
+    pub fn new(alloc: Global) -> OperandStack
         ensures operands { stack_of result ≡ [] }
         ensures any_below { result.any_below ≡ false }
         ensures beneath { beneath result ≡ [] }
     {
-        Kept {
+        OperandStack {
             types: Vec::new(alloc),
             base: 0,
             bottom: false,
@@ -246,7 +246,7 @@ impl Kept {
     }
 
     /// Pops an operand of type `from`, and pushes one of type `to`.
-    pub fn turns(&mut self, from: ValType, to: ValType) -> Result<bool, AllocError>
+    pub fn unary(&mut self, from: ValType, to: ValType) -> Result<bool, AllocError>
         ensures { IfOk result (λ ok. AnswersEffect (Some (Gives (from ∷ []) (to ∷ []))) self.old self.new ok) }
     {
         if !self.pop_type(from) {
@@ -257,7 +257,7 @@ impl Kept {
     }
 
     /// Pops two operands of type `from`, and pushes one of type `to`.
-    pub fn joins(&mut self, from: ValType, to: ValType) -> Result<bool, AllocError>
+    pub fn binary(&mut self, from: ValType, to: ValType) -> Result<bool, AllocError>
         ensures { IfOk result (λ ok. AnswersEffect (Some (Gives (from ∷ from ∷ []) (to ∷ []))) self.old self.new ok) }
     {
         if !self.pop_type(from) {

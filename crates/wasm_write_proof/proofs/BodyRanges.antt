@@ -279,7 +279,7 @@ module _ (laws : RangeLaws) where
       if_sound (b == 0xD2) _ _ (number_sound RefFunc in_RefFunc) (
       if_sound (b == 0xFC) _ _ (none_sound) (
       if_sound ((nat_le 0x2A b && nat_le b 0x2B) || (nat_le 0x38 b && nat_le b 0x39) || (nat_le 0x43 b && nat_le b 0x44) || (nat_le 0x5B b && nat_le b 0x66) || (nat_le 0x8B b && nat_le b 0xA6) || (nat_le 0xA8 b && nat_le b 0xAB) || (nat_le 0xAE b && nat_le b 0xBF) ||
-          (nat_le 0xFD b && nat_le b 0xFD)) unsupported unknown none_sound none_sound)))))))))))))))))))))))))))))))
+      (nat_le 0xFD b && nat_le b 0xFD)) unsupported unknown none_sound none_sound)))))))))))))))))))))))))))))))
 
   form_sound : (b : ℕ) → Sound (the_form b)
   unfolding the_form

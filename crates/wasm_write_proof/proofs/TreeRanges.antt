@@ -149,29 +149,39 @@ module _ (laws : RangeLaws) where
   in_kept p id r =
       says_when PartsInRange _ _ (id == 0) (λ c q h. subst PartsInRange (sym h.1) r)
       (says_when PartsInRange _ _ (id == 1) (says_made PartsInRange (with_types p) (Vector SpellsFuncType)
-          (λ c x h. record { imports = r.imports; func_types = r.func_types; tables = r.tables; mems = r.mems; globals = r.globals; exports = r.exports; start = r.start; elems = r.elems; codes = r.codes; datas = r.datas }))
+      (λ c x h. record { imports = r.imports; func_types = r.func_types; tables = r.tables; mems = r.mems; globals = r.globals; exports = r.exports; start = r.start; elems = r.elems; codes = r.codes; datas = r.datas }))
       (says_when PartsInRange _ _ (id == 2) (says_made PartsInRange (with_imports p) (Vector SpellsImport)
-          (λ c x h. record { imports = says_vector ImportInRange SpellsImport import_in c x h; func_types = r.func_types; tables = r.tables; mems = r.mems; globals = r.globals; exports = r.exports; start = r.start; elems = r.elems; codes = r.codes; datas = r.datas }))
+      (λ c x h. record { imports = says_vector ImportInRange SpellsImport import_in c x h; func_types = r.func_types; tables = r.tables; mems = r.mems; globals = r.globals; exports = r.exports; start = r.start; elems = r.elems; codes = r.codes; datas = r.datas }))
       (says_when PartsInRange _ _ (id == 3) (says_made PartsInRange (with_func_types p) (Vector U32) (λ c x h.
-          record { imports = r.imports; func_types = says_vector IsU32 U32 (u32_in laws) c x h; tables = r.tables; mems = r.mems; globals = r.globals; exports = r.exports; start = r.start; elems = r.elems; codes = r.codes; datas = r.datas }))
+      record { imports = r.imports; func_types = says_vector IsU32 U32 (u32_in laws) c x h; tables = r.tables; mems = r.mems; globals = r.globals; exports = r.exports; start = r.start; elems = r.elems; codes = r.codes; datas = r.datas }))
       (says_when PartsInRange _ _ (id == 4) (says_made PartsInRange (with_tables p) (Vector SpellsTable) (λ c x h.
-          record { imports = r.imports; func_types = r.func_types; tables = says_vector (λ (t : TableType). LimitsInRange t.limits) SpellsTable table_in c x h; mems = r.mems; globals = r.globals; exports = r.exports; start = r.start; elems = r.elems; codes = r.codes; datas = r.datas }))
+      record { imports = r.imports; func_types = r.func_types; tables = says_vector (λ (t : TableType). LimitsInRange t.limits) SpellsTable table_in c x h; mems = r.mems; globals = r.globals; exports = r.exports; start = r.start; elems = r.elems; codes = r.codes; datas = r.datas }))
       (says_when PartsInRange _ _ (id == 5) (says_made PartsInRange (with_mems p) (Vector SpellsLimits) (λ c x h.
-          record { imports = r.imports; func_types = r.func_types; tables = r.tables; mems = says_vector LimitsInRange SpellsLimits limits_in c x h; globals = r.globals; exports = r.exports; start = r.start; elems = r.elems; codes = r.codes; datas = r.datas }))
+      record { imports = r.imports; func_types = r.func_types; tables = r.tables; mems = says_vector LimitsInRange SpellsLimits limits_in c x h; globals = r.globals; exports = r.exports; start = r.start; elems = r.elems; codes = r.codes; datas = r.datas }))
       (says_when PartsInRange _ _ (id == 6) (says_made PartsInRange (with_globals p) (Vector SpellsGlobalDef)
-          (λ c x h. record { imports = r.imports; func_types = r.func_types; tables = r.tables; mems = r.mems; globals = says_vector (λ (g : GlobalDef). ConstInRange g.init) SpellsGlobalDef global_in c x h; exports = r.exports; start = r.start; elems = r.elems; codes = r.codes; datas = r.datas }))
+      (λ c x h. record { imports = r.imports; func_types = r.func_types; tables = r.tables; mems = r.mems; globals = says_vector (λ (g : GlobalDef). ConstInRange g.init) SpellsGlobalDef global_in c x h; exports = r.exports; start = r.start; elems = r.elems; codes = r.codes; datas = r.datas }))
       (says_when PartsInRange _ _ (id == 7) (says_made PartsInRange (with_exports p) (Vector SpellsExport)
-          (λ c x h. record { imports = r.imports; func_types = r.func_types; tables = r.tables; mems = r.mems; globals = r.globals; exports = says_vector ExportInRange SpellsExport export_in c x h; start = r.start; elems = r.elems; codes = r.codes; datas = r.datas }))
-      (says_when PartsInRange _ _ (id == 8) (says_made PartsInRange (with_start p) (U32) (λ c x h. record { imports = r.imports; func_types = r.func_types; tables = r.tables; mems = r.mems; globals = r.globals; exports = r.exports; start = u32_in laws c x h; elems = r.elems; codes = r.codes;
-          datas = r.datas }))
+      (λ c x h. record { imports = r.imports; func_types = r.func_types; tables = r.tables; mems = r.mems; globals = r.globals; exports = says_vector ExportInRange SpellsExport export_in c x h; start = r.start; elems = r.elems; codes = r.codes; datas = r.datas }))
+      (says_when PartsInRange _ _ (id == 8) (says_made PartsInRange (with_start p) (U32) (λ c x h. record {
+        imports = r.imports;
+        func_types = r.func_types;
+        tables = r.tables;
+        mems = r.mems;
+        globals = r.globals;
+        exports = r.exports;
+        start = u32_in laws c x h;
+        elems = r.elems;
+        codes = r.codes;
+        datas = r.datas;
+      }))
       (says_when PartsInRange _ _ (id == 9) (says_made PartsInRange (with_elems p) (Vector SpellsElem) (λ c x h.
-          record { imports = r.imports; func_types = r.func_types; tables = r.tables; mems = r.mems; globals = r.globals; exports = r.exports; start = r.start; elems = says_vector ElemInRange SpellsElem elem_in c x h; codes = r.codes; datas = r.datas }))
+      record { imports = r.imports; func_types = r.func_types; tables = r.tables; mems = r.mems; globals = r.globals; exports = r.exports; start = r.start; elems = says_vector ElemInRange SpellsElem elem_in c x h; codes = r.codes; datas = r.datas }))
       (says_when PartsInRange _ _ (id == 10) (says_made PartsInRange (with_codes p) (Vector (SpellsEntry false))
-          (λ c x h. record { imports = r.imports; func_types = r.func_types; tables = r.tables; mems = r.mems; globals = r.globals; exports = r.exports; start = r.start; elems = r.elems; codes = codes_in x (says_vector CodeInRange (SpellsEntry false) entry_in c x h); datas = r.datas }))
+      (λ c x h. record { imports = r.imports; func_types = r.func_types; tables = r.tables; mems = r.mems; globals = r.globals; exports = r.exports; start = r.start; elems = r.elems; codes = codes_in x (says_vector CodeInRange (SpellsEntry false) entry_in c x h); datas = r.datas }))
       (says_when PartsInRange _ _ (id == 11) (says_made PartsInRange (with_datas p) (Vector SpellsData) (λ c x h.
-          record { imports = r.imports; func_types = r.func_types; tables = r.tables; mems = r.mems; globals = r.globals; exports = r.exports; start = r.start; elems = r.elems; codes = r.codes; datas = says_vector DataInRange SpellsData data_in c x h }))
+      record { imports = r.imports; func_types = r.func_types; tables = r.tables; mems = r.mems; globals = r.globals; exports = r.exports; start = r.start; elems = r.elems; codes = r.codes; datas = says_vector DataInRange SpellsData data_in c x h }))
       (says_when PartsInRange _ _ (id == 12) (says_made PartsInRange (with_count p) (U32) (λ c x h. record
-          { imports = r.imports; func_types = r.func_types; tables = r.tables; mems = r.mems; globals = r.globals; exports = r.exports; start = r.start; elems = r.elems; codes = r.codes; datas = r.datas }))
+      { imports = r.imports; func_types = r.func_types; tables = r.tables; mems = r.mems; globals = r.globals; exports = r.exports; start = r.start; elems = r.elems; codes = r.codes; datas = r.datas }))
       (says_never PartsInRange)))))))))))))
 
   contents_in : (p : Parts) (ss : List Section) (q : Parts) → PartsInRange p → SectionContents false p ss q → PartsInRange q

@@ -167,7 +167,7 @@ module _ (r : Run) where
   set_all (FuncAt a) n v = absent
   set_all (TableAt a) n v =
       with_there (slice_get r.store.tables a) _ (λ t e. with_there (received_ref r.owned r.shown t.ty v) _
-          (λ w _. with_there (overwrite t.slots n (w ∷ [])) _ (λ slots is. let l = overwritten_length t.slots n (w ∷ []) slots is in does_all _ (table e (record { type = refl; most = refl; size = omega (arith, l) })))))
+      (λ w _. with_there (overwrite t.slots n (w ∷ [])) _ (λ slots is. let l = overwritten_length t.slots n (w ∷ []) slots is in does_all _ (table e (record { type = refl; most = refl; size = omega (arith, l) })))))
   set_all (MemoryAt a) n v =
       with_there (slice_get r.store.mems a) _ (λ m e. with_there (byte_of v) _ (λ b _. with_there (overwrite m.bytes n (b ∷ [])) _ (λ bytes _. does_all _ (memory e (record { most = refl; size = omega arith })))))
   set_all (GlobalAt a) n v = with_there (slice_get r.store.globals a) _ (λ g e. either_all (nat_eq n 0) (mutable g e g.ty.mutable refl) absent)

@@ -58,9 +58,9 @@ PlaceholdersAreCounted = (slot : ℕ) (ps : List (Pair × FuncType)) → length 
 abbrev pub LoadersAddAsStubbed : Type 0
 LoadersAddAsStubbed =
     (env : Environment) (w : LoaderWorld) (others : List Import) (types : List ℕ) → ImportsThemLast w others types → primary_added env w ≡ primary_added env (stubbed w others types) >>= λ a.
-        Some (placeholders_in env w a)
+    Some (placeholders_in env w a)
 
 abbrev pub LoadersBeginAsStubbed : Type 0
 LoadersBeginAsStubbed =
     (env : Environment) (w : LoaderWorld) (others : List Import) (types : List ℕ) → ImportsThemLast w others types → begun_under env w ≡ begun_under env (stubbed w others types) >>= λ b.
-        Some (placeholders_begun env w b)
+    Some (placeholders_begun env w b)

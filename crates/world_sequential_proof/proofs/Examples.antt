@@ -210,7 +210,7 @@ module _ (law : SequentialInstantiationIsEquivalent) where
   first_starts_in_turn : (moves : List Move) (n : ℕ) → IsPrefix (events first_starts offers_it moves n) (events_sequential first_starts offers_it moves (n + 8)) × IsPrefix (events_sequential first_starts offers_it moves n) (events first_starts offers_it moves (n + 8))
   first_starts_in_turn =
       law first_starts (of_both starts_first calls_it starts_first_is_valid calls_it_is_valid) (omega arith) (joins_earlier starts_first calls_it starts_first_joins_none calls_it_joins_the_first) (no_late starts_first calls_it (λ s e. record { elems = refl; datas = refl })) offers_it refl
-          first_starts_begins_well
+      first_starts_begins_well
 
   second_fills_in_turn : (moves : List Move) (n : ℕ) → IsPrefix (events second_fills offers_it moves n) (events_sequential second_fills offers_it moves (n + 8)) × IsPrefix (events_sequential second_fills offers_it moves n) (events second_fills offers_it moves (n + 8))
   second_fills_in_turn =

@@ -39,7 +39,7 @@ data_turned_one value s task data'.Passive = goes_on
 data_turned_one value s task (data'.Active x offset) =
     or_turned (with_memories s) s (offset_in value offset) _ _ (λ n. or_turned (with_memories s) s (slice_get task.inst.mems x) _ _ (λ a. or_turned (with_memories s) s (slice_get s.mems a) _ _ (λ t. or_turned (with_memories s) s (slice_get s.datas task.address) _ _ (λ e.
     elim (overwrite t.bytes n e.bytes) as (λ o. Turned (with_memories s) (option_and_then (λ z. Some (slice_set s.mems a z, slice_set s.datas task.address no_bytes)) (option_and_then (λ bytes. Some (record t { bytes = bytes })) o)) (copy_bytes s task.address a t o))
-        [ Some bytes ↦ goes_on | None ↦ stops ]))))
+    [ Some bytes ↦ goes_on | None ↦ stops ]))))
 
 pub datas_turned : (value : ℕ → Values) (tasks : List (PlacedSegment DataSeg)) (s : Store) → Turned (with_memories s) (data_runs (map (data_task_job value) tasks) (s.mems, s.datas)) (one_by_one (data_turn value) s tasks)
 datas_turned value [] s = goes_on

@@ -59,9 +59,9 @@ module _ (env : Environment) (parts : List Part) (insts : List Inst) (are : Inst
           let b = and_then_is (slice_get parts k) (λ part. Some part.«module») m is_part in
           let l = slice_get_within parts k b.0 b.1 in
           let es = next_runs Table Elem table_fill no_items (elem_jobs_of env parts insts) (length parts) k l (allocated.tables, allocated.elems) _ all.0 (rw (all_elems env parts insts allocated stores_are size) at all.2)
-              (rw (rest, ← append_assoc t.tables a.tables later.tables, ← append_assoc t.elems a.elems later.elems) at filled.tables) in
+          (rw (rest, ← append_assoc t.tables a.tables later.tables, ← append_assoc t.elems a.elems later.elems) at filled.tables) in
           let ds = next_runs Memory Data memory_fill no_bytes (data_jobs_of env parts insts) (length parts) k l (allocated.mems, allocated.datas) _ all.1 (rw (all_datas env parts insts allocated stores_are size) at all.3)
-              (rw (rest, ← append_assoc t.mems a.mems later.mems, ← append_assoc t.datas a.datas later.datas) at filled.mems) in
+          (rw (rest, ← append_assoc t.mems a.mems later.mems, ← append_assoc t.datas a.datas later.datas) at filled.mems) in
           let elems = elems_low (value_of env parts insts k) i (base env parts Tables (suc k)) (defined_before ElementSegments parts (suc k)) (space_low env parts there earlier are k m i is_part inst Tables) i.elems m.elems (own_low ElementSegments i.elems inst.elems) in
           let e = runs_front Table Elem table_fill no_items later.tables later.elems (elem_jobs (value_of env parts insts k) i i.elems m.elems) _ _ elems (t.tables ++ a.tables) (t.elems ++ a.elems) lengths.tables lengths.elems es.0 (rw (← elem_jobs_at env parts insts k m i is_part is_inst) es.1) in
           let datas = datas_low (value_of env parts insts k) i (base env parts Memories (suc k)) (defined_before DataSegments parts (suc k)) (space_low env parts there earlier are k m i is_part inst Memories) i.datas m.datas (own_low DataSegments i.datas inst.datas) in

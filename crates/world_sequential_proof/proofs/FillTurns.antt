@@ -61,7 +61,7 @@ elem_turned_one : (value : Values) (s : Store) (task : PlacedSegment ElemSeg) (m
 elem_turned_one value s task (elem.Active x offset) =
     or_turned (with_tables s) s (offset_in value offset) _ _ (λ n. or_turned (with_tables s) s (slice_get task.inst.tables x) _ _ (λ a. or_turned (with_tables s) s (slice_get s.tables a) _ _ (λ t. or_turned (with_tables s) s (slice_get s.elems task.address) _ _ (λ e.
     elim (overwrite t.slots n e.items) as (λ o. Turned (with_tables s) (option_and_then (λ z. Some (slice_set s.tables a z, slice_set s.elems task.address no_items)) (option_and_then (λ slots. Some (record t { slots = slots })) o)) (copy_slots s task.address a t o))
-        [ Some slots ↦ goes_on | None ↦ stops ]))))
+    [ Some slots ↦ goes_on | None ↦ stops ]))))
 elem_turned_one value s task _ = goes_on
 
 pub elems_turned : (value : ℕ → Values) (tasks : List (PlacedSegment ElemSeg)) (s : Store) → Turned (with_tables s) (elem_runs (map (elem_task_job value) tasks) (s.tables, s.elems)) (one_by_one (elem_turn value) s tasks)

@@ -7,7 +7,7 @@ use Rattle.wasm_meaning.specs.Prelude.{trapped, StartDependsOnlyOnItsFrames}
 use Rattle.wasm_meaning.specs.StartFrames.{goes_on}
 use Rattle.index_remap.specs.Prelude.{ListRel, nil, cons}
 use Rattle.world_simulation.specs.Starts.{from_nothing_to_nothing, NamesStart, CallsEach}
-use Rattle.base_simulation.proofs.LedRuns.{Leads, both, second, led_traces_are_equal}
+use Rattle.base_simulation.proofs.StepwiseSimulation.{StepsTogether, both, second, stuttering_traces_are_equal}
 
 -- The entries that all others stand on: the starts that are left to open; and, where one start calls them, its own frame with the calls that are left.
 abbrev openings : List ℕ → List Entry
@@ -55,7 +55,7 @@ module _ (xs ns : List ℕ) (j : Inst) where
 -- ---- the whole of it ----
 
 module _ (below : StartDependsOnlyOnItsFrames) where
-  next : (d e : ℕ) (r q : Run) → Alike d r q → Leads tick tick (λ d _. Alike d) d e r q
+  next : (d e : ℕ) (r q : Run) → Alike d r q → StepsTogether tick tick (λ d _. Alike d) d e r q
   next d e r q (the_same x) = both refl (the_same _)
   next d e r q (fresh env b a moves c) =
       let opened = record (fresh_run env (Some b) moves) { store = b.store; phase = Pending b.view; owned = b.owned } in
@@ -69,4 +69,4 @@ module _ (below : StartDependsOnlyOnItsFrames) where
   pub one_start : (env : Environment) (b : Begun) (a : ℕ) → CallsEach b.store a b.starts → (moves : List Move) (n : ℕ) →
       IsPrefix (events_of tick (fresh_run env (Some b) moves) n) (events_of tick (fresh_run env (Some (record b { starts = a ∷ [] })) moves) (n + 2))
       × IsPrefix (events_of tick (fresh_run env (Some (record b { starts = a ∷ [] })) moves) n) (events_of tick (fresh_run env (Some b) moves) n)
-  one_start env b a c moves n = rw (add-zero n) at (led_traces_are_equal tick tick (λ d _. Alike d) next 2 0 _ _ (fresh env b a moves c) n)
+  one_start env b a c moves n = rw (add-zero n) at (stuttering_traces_are_equal tick tick (λ d _. Alike d) next 2 0 _ _ (fresh env b a moves c) n)

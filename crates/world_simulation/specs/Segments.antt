@@ -58,13 +58,13 @@ pub data DataAlone (alone : Space → ℕ → Type 0) (env : Environment) (w : I
 abbrev pub ElemsInOrder : Pairing → Environment → Instantiated → Instantiated → Type 0
 ElemsInOrder R env v w =
     InOrder (λ x y. ElemsPartner R (values_in env v x.part) (values_in env w y.part) x y x.segment.mode y.segment.mode) (λ x. ElemAlone (HasNoPartner (turned R)) env v x x.segment.mode)
-        (λ y. ElemAlone (HasNoPartner R) env w y y.segment.mode)
+    (λ y. ElemAlone (HasNoPartner R) env w y y.segment.mode)
     (placed_elems 0 v.parts v.insts) (placed_elems 0 w.parts w.insts)
 
 abbrev pub DatasInOrder : Pairing → Environment → Instantiated → Instantiated → Type 0
 DatasInOrder R env v w =
     InOrder (λ x y. DatasPartner R (values_in env v x.part) (values_in env w y.part) x y x.segment.mode y.segment.mode) (λ x. DataAlone (HasNoPartner (turned R)) env v x x.segment.mode)
-        (λ y. DataAlone (HasNoPartner R) env w y y.segment.mode)
+    (λ y. DataAlone (HasNoPartner R) env w y y.segment.mode)
     (placed_datas 0 v.parts v.insts) (placed_datas 0 w.parts w.insts)
 
 -- ---- what is kept where a segment without a partner is copied ----

@@ -4,8 +4,15 @@ use Rattle.wasm_bytes.proofs.Places.{front_none, goes_on_more, goes_on_bad, goes
 use Rattle.wasm_bytes.proofs.framing.frames_behind.Goals as goal
 
 pub loop-at-init : goal.loop-at-init
-loop-at-init c = record { inside = omega arith; few = omega arith; counted = rw c.new-frames.ensures refl; stand = rw c.new-frames.ensures refl; each = λ i lt. absurd (let bad = rw c.new-frames.ensures at lt in omega (arith, bad)); goes_on =
-    (length c.args.bytes.now, omega arith, rw c.new-frames.ensures (front_none _)) }
+loop-at-init c = record {
+  inside = omega arith;
+  few = omega arith;
+  counted = rw c.new-frames.ensures refl;
+  stand = rw c.new-frames.ensures refl;
+  each = λ i lt. absurd (let bad = rw c.new-frames.ensures at lt in omega (arith, bad));
+  goes_on =
+      (length c.args.bytes.now, omega arith, rw c.new-frames.ensures (front_none _));
+}
 
 pub returns-in_default-clause-gives : goal.returns-in_default-clause-gives
 returns-in_default-clause-gives c = let l = c.loop-at in goes_on_bad _ l.frames l.at l.last l.count c.loop-at-test.true c.in_default.ensures.gives l.invariant.goes_on

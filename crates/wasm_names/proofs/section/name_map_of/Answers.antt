@@ -9,8 +9,10 @@ returns-in_err-part c =
     record { gives = rw gone (stops c.args.content.now (lent_option c.loop-id.found) c.loop-id.cursor c.byte.new.self c.in-Ok.id _ c.in-Ok.ensures.gives c.in_err-part.ensures.gives c.loop-id.invariant) }
 
 pub returns-then-is_some : goal.returns-then-is_some
-returns-then-is_some c = record { gives = twice c.args.content.now (lent_option c.loop-id.found) c.loop-id.cursor c.byte.new.self c.in_ok-part.part.now _ c.in-Ok.id c.in-Ok.ensures.gives c.in_ok-part.ensures.gives
-    (second_map c.loop-id.found c.in-Ok.id c.in_ok-part.part.now c.if-id-eq-FUNCTION_NAMES.true (sym c.is_some.ensures ∙ c.if-is_some.true)) c.loop-id.invariant }
+returns-then-is_some c = record {
+  gives = twice c.args.content.now (lent_option c.loop-id.found) c.loop-id.cursor c.byte.new.self c.in_ok-part.part.now _ c.in-Ok.id c.in-Ok.ensures.gives c.in_ok-part.ensures.gives
+      (second_map c.loop-id.found c.in-Ok.id c.in_ok-part.part.now c.if-id-eq-FUNCTION_NAMES.true (sym c.is_some.ensures ∙ c.if-is_some.true)) c.loop-id.invariant;
+}
 
 pub loop-id-preserved-then-id-eq-FUNCTION_NAMES : goal.loop-id-preserved-then-id-eq-FUNCTION_NAMES
 loop-id-preserved-then-id-eq-FUNCTION_NAMES c = goes_on c.args.content.now (lent_option c.loop-id.found) _ c.loop-id.cursor c.byte.new.self c.in_ok-part.part.now _ c.in-Ok.id c.in-Ok.ensures.gives c.in_ok-part.ensures.gives (omega (arith, c.in_ok-part.ensures.shorter))

@@ -16,7 +16,7 @@ loop-export-preserved c =
     record {
       known = λ text.
           known_more (λ t. is_some (get_by (λ k. slice_cmp nat_cmp t k.now) c.loop-export.names)) (λ t. is_some (get_by (λ k. slice_cmp nat_cmp t k.now) c.insert.new.self)) before name c.loop-export.invariant.known
-              (λ t. map_more (bytes_eq name t) _ _ (btree_map_updates_str name c.loop-export.names c.insert.new.self _ c.in_ok-insert.ensures.updates t)) text
+          (λ t. map_more (bytes_eq name t) _ _ (btree_map_updates_str name c.loop-export.names c.insert.new.self _ c.in_ok-insert.ensures.updates t)) text
           ∙ ap (λ z. list_any (bytes_eq text) (before ++ z ∷ [])) bytes ∙ ap (list_any (bytes_eq text)) (sym more);
       joined = joined_more c.loop-export.all.items c.push.new.self.items c.contains_key.result es i e c.loop-export-test.true c.export-item.is c.in_ok-push.ensures.items found ∙ c.loop-export.invariant.joined;
     }

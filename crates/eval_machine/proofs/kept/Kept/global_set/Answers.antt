@@ -9,4 +9,4 @@ returns-clause-begins c =
 pub returns-clause-stays : goal.returns-clause-stays
 returns-clause-stays c =
     globals_stay c.args.self.now c.note_global.new.self c.set.new.self c.args.global c.pop-value.result c.set.result (record { flags = c.note_global.ensures.flags; globals = c.note_global.ensures.globals; dropped = c.note_global.ensures.dropped }) c.in_ok-note_global.ensures.there c.set.ensures.set
-        c.set.ensures.same
+    c.set.ensures.same

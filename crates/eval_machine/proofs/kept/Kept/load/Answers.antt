@@ -18,17 +18,17 @@ pub returns-in_default-pop_narrow : goal.returns-in_default-pop_narrow
 returns-in_default-pop_narrow c =
     let same : c.args.arg.memory ≡ c.args.self.now.imports.memories = omega (arith, c.if-arg-self.false, c.if-arg-self-2.false) in
     load_untyped c.args.input.now c.args.self.now c.requires.fits c.args.op c.args.arg c.args.operands.now c.args.operands.now c.in-Some.paged c.if-arg-self.false (found c.args.input.now c.args.self.now c.requires.fits c.args.arg.memory c.in-Some.paged same c.in-Some.is)
-        (c.in_default-pop_narrow.ensures.none refl)
+    (c.in_default-pop_narrow.ensures.none refl)
 
 pub returns-then-at-from : goal.returns-then-at-from
 returns-then-at-from c =
     let same : c.args.arg.memory ≡ c.args.self.now.imports.memories = omega (arith, c.if-arg-self.false, c.if-arg-self-2.false) in
     load_outside c.args.input.now c.args.self.now c.requires.fits c.args.op c.args.arg c.args.operands.now c.args.operands.now c.in-Some.paged c.if-arg-self.false (found c.args.input.now c.args.self.now c.requires.fits c.args.arg.memory c.in-Some.paged same c.in-Some.is) c.in-Some-pop_narrow.base
-        c.pop_narrow.new.self c.in-Some-pop_narrow.ensures.some (rw (c.from.ensures, c.from-2.ensures, c.from-3.ensures, c.width_of-width.ensures.value, c.size.ensures) at c.if-at-from.true)
+    c.pop_narrow.new.self c.in-Some-pop_narrow.ensures.some (rw (c.from.ensures, c.from-2.ensures, c.from-3.ensures, c.width_of-width.ensures.value, c.size.ensures) at c.if-at-from.true)
 
 pub returns : goal.returns
 returns c =
     let same : c.args.arg.memory ≡ c.args.self.now.imports.memories = omega (arith, c.if-arg-self.false, c.if-arg-self-2.false) in
     rw (c.in_ok-push.ensures, c.value_of.ensures, c.load.ensures.value, c.from.ensures, c.from-2.ensures, c.width_of-width.ensures.value)
     (load_inside c.args.input.now c.args.self.now c.requires.fits c.args.op c.args.arg c.args.operands.now c.args.operands.now c.in-Some.paged c.if-arg-self.false (found c.args.input.now c.args.self.now c.requires.fits c.args.arg.memory c.in-Some.paged same c.in-Some.is) c.in-Some-pop_narrow.base
-        c.pop_narrow.new.self c.in-Some-pop_narrow.ensures.some (rw (c.from.ensures, c.from-2.ensures, c.from-3.ensures, c.width_of-width.ensures.value, c.size.ensures) at c.if-at-from.false))
+    c.pop_narrow.new.self c.in-Some-pop_narrow.ensures.some (rw (c.from.ensures, c.from-2.ensures, c.from-3.ensures, c.width_of-width.ensures.value, c.size.ensures) at c.if-at-from.false))

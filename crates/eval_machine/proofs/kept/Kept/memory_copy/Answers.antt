@@ -29,15 +29,15 @@ returns-in_default-pop_range-clause-begins c =
     let same : c.args.memory ≡ c.args.self.now.imports.memories = omega (arith, c.if-memory-imported.false, c.if-memory-imported-2.false) in
     let also : c.args.source ≡ c.args.memory = omega (arith, same, c.if-source-imported.false, c.if-source-imported-2.false) in
     copy_untyped c.args.input.now c.args.self.now c.requires.fits c.args.memory c.args.source c.args.operands.now c.pop_range.new.operands c.if-memory-imported.false c.if-source-imported.false c.in-Some.paged
-        (found c.args.input.now c.args.self.now c.requires.fits c.args.memory c.in-Some.paged same c.in-Some.is) also (c.in_default-pop_range.ensures.none refl)
+    (found c.args.input.now c.args.self.now c.requires.fits c.args.memory c.in-Some.paged same c.in-Some.is) also (c.in_default-pop_range.ensures.none refl)
 
 pub returns-then-from-size-clause-begins : goal.returns-then-from-size-clause-begins
 returns-then-from-size-clause-begins c =
     let same : c.args.memory ≡ c.args.self.now.imports.memories = omega (arith, c.if-memory-imported.false, c.if-memory-imported-2.false) in
     let also : c.args.source ≡ c.args.memory = omega (arith, same, c.if-source-imported.false, c.if-source-imported-2.false) in
     copy_outside c.args.input.now c.args.self.now c.requires.fits c.args.memory c.args.source c.args.operands.now c.pop_range.new.operands c.if-memory-imported.false c.if-source-imported.false c.in-Some.paged
-        (found c.args.input.now c.args.self.now c.requires.fits c.args.memory c.in-Some.paged same c.in-Some.is) also c.in-Some-pop_range.range.to c.in-Some-pop_range.range.from c.in-Some-pop_range.range.count c.pop_range.new.operands c.in-Some-pop_range.ensures.some
-        (rw (c.from.ensures, c.from-2.ensures, c.size.ensures) at c.if-from-size.true)
+    (found c.args.input.now c.args.self.now c.requires.fits c.args.memory c.in-Some.paged same c.in-Some.is) also c.in-Some-pop_range.range.to c.in-Some-pop_range.range.from c.in-Some-pop_range.range.count c.pop_range.new.operands c.in-Some-pop_range.ensures.some
+    (rw (c.from.ensures, c.from-2.ensures, c.size.ensures) at c.if-from-size.true)
 
 pub returns-clause-begins : goal.returns-clause-begins
 returns-clause-begins c =
@@ -45,5 +45,5 @@ returns-clause-begins c =
     let also : c.args.source ≡ c.args.memory = omega (arith, same, c.if-source-imported.false, c.if-source-imported-2.false) in
     rw also
     (copy_begins c.args.input.now c.args.self.now c.requires.fits c.args.memory c.in-Some.paged (found c.args.input.now c.args.self.now c.requires.fits c.args.memory c.in-Some.paged same c.in-Some.is)
-        (own_memory c.args.input.now c.args.self.now c.requires.fits c.args.memory c.if-memory-imported.false) c.in-Some.is c.args.operands.now c.pop_range.new.operands
+    (own_memory c.args.input.now c.args.self.now c.requires.fits c.args.memory c.if-memory-imported.false) c.in-Some.is c.args.operands.now c.pop_range.new.operands
     c.in-Some-pop_range.range.to c.in-Some-pop_range.range.from c.in-Some-pop_range.range.count c.in-Some-pop_range.ensures.some (rw (c.from.ensures, c.from-2.ensures, c.size.ensures) at c.if-from-size.false) c.copy.result c.copy.new.paged c.copy.new.turns c.copy.ensures.told c.copy.ensures.wrote)

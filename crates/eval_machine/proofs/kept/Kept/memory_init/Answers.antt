@@ -21,16 +21,16 @@ pub returns-in_default-pop_range-clause-begins : goal.returns-in_default-pop_ran
 returns-in_default-pop_range-clause-begins c =
     let same : c.args.memory ≡ c.args.self.now.imports.memories = omega (arith, c.if-memory-self.false, c.if-memory-self-2.false) in
     init_untyped c.args.input.now c.args.self.now c.requires.fits c.args.segment c.args.memory c.args.operands.now c.pop_range.new.operands c.if-memory-self.false c.in-Some-memory.paged
-        (found c.args.input.now c.args.self.now c.requires.fits c.args.memory c.in-Some-memory.paged same c.in-Some-memory.is)
+    (found c.args.input.now c.args.self.now c.requires.fits c.args.memory c.in-Some-memory.paged same c.in-Some-memory.is)
     c.in-Some.bytes.now (data_found c.args.input.now c.args.self.now c.args.segment c.in-Some.bytes.now c.in-Some.ensures.some) (c.in_default-pop_range.ensures.none refl)
 
 pub returns-then-from-bytes-clause-begins : goal.returns-then-from-bytes-clause-begins
 returns-then-from-bytes-clause-begins c =
     let same : c.args.memory ≡ c.args.self.now.imports.memories = omega (arith, c.if-memory-self.false, c.if-memory-self-2.false) in
     init_outside c.args.input.now c.args.self.now c.requires.fits c.args.segment c.args.memory c.args.operands.now c.pop_range.new.operands c.if-memory-self.false c.in-Some-memory.paged
-        (found c.args.input.now c.args.self.now c.requires.fits c.args.memory c.in-Some-memory.paged same c.in-Some-memory.is)
+    (found c.args.input.now c.args.self.now c.requires.fits c.args.memory c.in-Some-memory.paged same c.in-Some-memory.is)
     c.in-Some.bytes.now (data_found c.args.input.now c.args.self.now c.args.segment c.in-Some.bytes.now c.in-Some.ensures.some) c.in-Some-pop_range.range.to c.in-Some-pop_range.range.from c.in-Some-pop_range.range.count c.pop_range.new.operands c.in-Some-pop_range.ensures.some
-        (rw (c.from.ensures, c.from-2.ensures) at c.if-from-bytes.true)
+    (rw (c.from.ensures, c.from-2.ensures) at c.if-from-bytes.true)
 
 pub returns-clause-begins : goal.returns-clause-begins
 returns-clause-begins c =
@@ -39,4 +39,4 @@ returns-clause-begins c =
     init_begins c.args.input.now c.args.self.now c.requires.fits c.args.segment c.args.memory c.in-Some-memory.paged (found c.args.input.now c.args.self.now c.requires.fits c.args.memory c.in-Some-memory.paged same c.in-Some-memory.is)
     (own_memory c.args.input.now c.args.self.now c.requires.fits c.args.memory c.if-memory-self.false) c.in-Some-memory.is c.args.operands.now c.pop_range.new.operands c.in-Some.bytes.now (data_found c.args.input.now c.args.self.now c.args.segment c.in-Some.bytes.now c.in-Some.ensures.some)
     c.in-Some-pop_range.range.to c.in-Some-pop_range.range.from c.in-Some-pop_range.range.count c.in-Some-pop_range.ensures.some (rw (c.from.ensures, c.from-2.ensures) at c.if-from-bytes.false) c.init.result c.init.new.paged c.init.new.turns (rw many at c.init.ensures.told)
-        (rw many at c.init.ensures.wrote)
+    (rw many at c.init.ensures.wrote)

@@ -138,7 +138,7 @@ run_opened-returns-then-opening-clause-runs t c = λ o rest p es d.
     (rw c.in-Branch.is at c.in_ok-run_code.ensures.runs)
     (came
     (jumped c.args.input.now c.run_code.new.self c.in-Branch.label b.gives b.takes (back_of o b.again) c.take_level.new.self c.in-Some-3.carried c.take_top-in-Branch.new.self c.put_back-in-Branch.new.self rest p es (omega (arith, c.if-label-gt0.false))
-        (rw c.in-Some-3.is at c.in_ok-carried-in-Branch.ensures)
+    (rw c.in-Some-3.is at c.in_ok-carried-in-Branch.ensures)
     (c.in_ok-put_back-in-Branch.ensures ∙ ap (λ ys. c.in-Some-3.carried ++ ys) c.replace-below.ensures.value)
     ∙ ap (λ k. running c.args.input.now (record c.run_code.new.self { operands = c.put_back-in-Branch.new.self }) k p es) (back_again o b.again rest c.if-opening.true))
     here)
@@ -152,7 +152,7 @@ run_opened-returns-else-opening-clause-runs t c = λ o rest p es d.
     (rw c.in-Branch.is at c.in_ok-run_code.ensures.runs)
     (came
     (jumped c.args.input.now c.run_code.new.self c.in-Branch.label b.gives b.takes (back_of o b.again) c.take_level.new.self c.in-Some-3.carried c.take_top-in-Branch.new.self c.put_back-in-Branch.new.self rest p es (omega (arith, c.if-label-gt0.false))
-        (rw c.in-Some-3.is at c.in_ok-carried-in-Branch.ensures)
+    (rw c.in-Some-3.is at c.in_ok-carried-in-Branch.ensures)
     (c.in_ok-put_back-in-Branch.ensures ∙ ap (λ ys. c.in-Some-3.carried ++ ys) c.replace-below.ensures.value)
     ∙ ap (λ k. running c.args.input.now (record c.run_code.new.self { operands = c.put_back-in-Branch.new.self }) k p es) (back_on o b.again rest c.if-opening.false))
     here)

@@ -1,10 +1,10 @@
 use Rattle.base_lists.proofs.Common.{◌≡◌, true, Some, sym, ◌∙◌, subst, slice_get, slice_index}
 use Rattle.wasm_valid_bodies.specs.Tracking.{allows_types}
-use Rattle.wasm_valid_bodies.specs.Kept.{stack_of}
+use Rattle.wasm_valid_bodies.specs.OperandStack.{stack_of}
 use Rattle.wasm_valid_bodies.specs.Labels.{label_list}
 use Rattle.wasm_valid_bodies.proofs.Branching.{allowed_at}
 use Rattle.wasm_valid_bodies.proofs.Places.{marked_by}
-use Rattle.wasm_valid_bodies.proofs.kept.Kept.allows_each.Goals as goal
+use Rattle.wasm_valid_bodies.proofs.operand_stack.OperandStack.allows_each.Goals as goal
 
 pub loop-label-preserved : goal.loop-label-preserved
 loop-label-preserved c = record {

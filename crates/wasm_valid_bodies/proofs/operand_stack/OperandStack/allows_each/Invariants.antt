@@ -1,8 +1,8 @@
 use Rattle.base_lists.proofs.Common.{◌≡◌, ℕ, true, Some, drop, slice_get}
 use Rattle.wasm_valid_bodies.specs.Tracking.{allows_types, allows_all}
-use Rattle.wasm_valid_bodies.specs.Kept.{stack_of}
+use Rattle.wasm_valid_bodies.specs.OperandStack.{stack_of}
 use Rattle.wasm_valid_bodies.specs.Labels.{label_list}
-use Rattle.wasm_valid_bodies.proofs.kept.Kept.allows_each.Given as goal
+use Rattle.wasm_valid_bodies.proofs.operand_stack.OperandStack.allows_each.Given as goal
 
 abbrev pub invariant-loop-label : goal.invariant-loop-label
 invariant-loop-label l = record {

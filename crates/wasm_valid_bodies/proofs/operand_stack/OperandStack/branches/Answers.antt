@@ -1,8 +1,8 @@
 use Rattle.std.proofs.Common.{sym, ap, ◌∙◌, Some, true}
-use Rattle.wasm_valid_bodies.specs.Kept.{stack_of}
+use Rattle.wasm_valid_bodies.specs.OperandStack.{stack_of}
 use Rattle.wasm_valid_bodies.specs.Labels.{label_list}
 use Rattle.wasm_valid_bodies.proofs.Branching.{branches_yes, branches_no}
-use Rattle.wasm_valid_bodies.proofs.kept.Kept.branches.Goals as goal
+use Rattle.wasm_valid_bodies.proofs.operand_stack.OperandStack.branches.Goals as goal
 
 pub returns-then-not-branch : goal.returns-then-not-branch
 returns-then-not-branch c = (

@@ -1,7 +1,7 @@
 use Rattle.base_lists.proofs.Common.{Some, sym, ap, ◌∙◌, reverse, length, drop, length-reverse}
-use Rattle.wasm_valid_bodies.specs.Kept.{stack_of, when}
+use Rattle.wasm_valid_bodies.specs.OperandStack.{stack_of, when}
 use Rattle.wasm_valid_bodies.proofs.Known.{popped}
-use Rattle.wasm_valid_bodies.proofs.kept.Kept.pop_all.Goals as goal
+use Rattle.wasm_valid_bodies.proofs.operand_stack.OperandStack.pop_all.Goals as goal
 
 pub returns-clause-value : goal.returns-clause-value
 returns-clause-value c =

@@ -8,7 +8,7 @@ use wasm_tree::ValType;
 /// them at most one bottom (an operand of any type) and, if `any_below`, any operands below that. A
 /// bottom is never above a known operand, because only a `select` of two bottoms leaves one.
 #[derive(Drop)]
-pub struct Kept {
+pub struct OperandStack {
     /// The types of the known operands of all open blocks, the topmost last.
     pub types: Vec<ValType>,
     /// How many of them belong to the blocks around the innermost one.
