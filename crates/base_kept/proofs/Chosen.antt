@@ -1,4 +1,4 @@
--- What is chosen of the elements that are kept, and how many places are marked before one.
+-- The values chosen of the elements that are kept, and the number of marked places before a place.
 use Rattle.base_lists.proofs.Common.{◌≡◌, ◌∙◌, ap, ap₂, sym, refl, ℕ, zero, suc, ◌+◌, ◌<◌, List, [], ◌∷◌, drop, map, length, true≢false, Bool, true, false, Option, Some, None, option_and_then, slice_get, arith, cons_option}
 use Rattle.std.proofs.Common.{filter_map}
 use Rattle.base_lists.specs.Places.{places}

@@ -1,4 +1,5 @@
--- What is kept of a list by marks: what stands at its places, and what is kept of lists that are joined, mapped or chosen from others.
+-- The elements of a list that are kept by marks: their places, and those of lists that are joined,
+-- mapped or chosen from others.
 use Rattle.base_lists.proofs.Common.{◌≡◌, ◌∙◌, ap, sym, subst, refl, ℕ, zero, suc, ◌+◌, ◌<◌, ◌≤◌, List, [], ◌∷◌, ◌++◌, map, take, drop, length, replicate, Option, Some, None, is_some, Bool, true, false, cond, arith, slice_get, slice_index, true≢false, reverse, append_assoc, Contains, cons_option}
 use Rattle.base_lists.proofs.Common.{reverse-append, map-append, slice_get_within, slice_get-get_or, get_or_from_slice_get, map_numbers_index, numbers_more}
 use Rattle.std.proofs.Common.{filter_map}
@@ -18,7 +19,7 @@ kept_at (b ∷ bs) (y ∷ ys) (suc n) x h e = by b (kept_at bs ys n x h e)
     by true on = on
     by false on = on
 
--- an element that is kept, by the place that it had
+-- An element that is kept, with the place that it had.
 pub record Kept {A : Type 0} (bs : List Bool) (xs : List A) (at : ℕ) (x : A) : Type 0 where
   pub place : ℕ
   pub yes : is_marked bs place ≡ true
@@ -35,11 +36,11 @@ kept_from {A} (false ∷ bs) (y ∷ ys) at x h = let r = kept_from bs ys at x h 
 pub new_place : (bs : List Bool) (n : ℕ) → n < length bs → slice_index (new_places bs) n ≡ kept_before bs n
 new_place bs n lt = map_numbers_index (kept_before bs) 0 (length bs) n lt ∙ ap (kept_before bs) (let z : 0 + n ≡ n = omega arith in z)
 
--- an element that is kept stands at its new place
+-- An element that is kept stands at its new place.
 pub moved : {A : Type 0} (bs : List Bool) (xs : List A) (n : ℕ) (x : A) → length xs ≤ length bs → is_marked bs n ≡ true → slice_get xs n ≡ Some x → slice_get (kept bs xs) (slice_index (new_places bs) n) ≡ Some x
 moved bs xs n x many h e = let lt = slice_get_within xs n x e in ap (slice_get (kept bs xs)) (new_place bs n (omega (arith, lt, many))) ∙ kept_at bs xs n x h e
 
--- the marks from a place on
+-- The marks from a place on are those of the list without the marks before it.
 pub marked_drop : (bs : List Bool) (n z : ℕ) → is_marked (drop n bs) z ≡ is_marked bs (n + z)
 marked_drop bs zero z = ap (is_marked bs) (let e : z ≡ 0 + z = omega arith in e)
 marked_drop [] (suc n) z = refl
@@ -90,7 +91,7 @@ kept_take (b ∷ bs) (x ∷ xs) zero = refl
 kept_take (true ∷ bs) (x ∷ xs) (suc n) = ap (λ ys. x ∷ ys) (kept_take bs xs n)
 kept_take (false ∷ bs) (x ∷ xs) (suc n) = kept_take bs xs n
 
--- what is kept was there
+-- Each element that is kept is an element of the list.
 pub kept_contained : {A : Type 0} (bs : List Bool) (xs : List A) (x : A) → Contains (kept bs xs) x → Contains xs x
 kept_contained bs xs x (k, lt, e) =
     let r = kept_from bs xs k x (slice_get-get_or (kept bs xs) k x lt ∙ ap Some e) in
@@ -98,7 +99,7 @@ kept_contained bs xs x (k, lt, e) =
 
 -- ---- one more ----
 
--- an element more is kept where it is marked
+-- A further element is kept if its place is marked.
 kept_last : {A : Type 0} (bs : List Bool) (n : ℕ) (x : A) → kept (drop n bs) (x ∷ []) ≡ cond (is_marked bs n) (x ∷ []) []
 kept_last [] zero x = refl
 kept_last [] (suc n) x = refl
@@ -109,7 +110,7 @@ kept_last (b ∷ bs) (suc n) x = kept_last bs n x
 kept_more : {A : Type 0} (bs : List Bool) (xs : List A) (x : A) → kept bs (xs ++ x ∷ []) ≡ kept bs xs ++ cond (is_marked bs (length xs)) (x ∷ []) []
 kept_more bs xs x = kept_append bs xs (x ∷ []) ∙ ap (λ ys. kept bs xs ++ ys) (kept_last bs (length xs) x)
 
--- where what was kept of the last elements lies backward
+-- One step of a loop from the end, with the elements kept of those passed in reverse order.
 pub one_taken : {A : Type 0} (bs : List Bool) (all xs ys back : List A) (x : A) → xs ≡ ys ++ x ∷ [] → is_marked bs (length ys) ≡ true → kept bs xs ++ reverse back ≡ kept bs all → kept bs ys ++ reverse (back ++ x ∷ []) ≡ kept bs all
 one_taken bs all xs ys back x e h is =
     ap (λ zs. kept bs ys ++ zs) (reverse-append back (x ∷ [])) ∙ sym (append_assoc (kept bs ys) (x ∷ []) (reverse back))
@@ -151,11 +152,11 @@ before_most (false ∷ bs) (suc n) = let l = before_most bs n in omega (arith, l
 
 -- ---- lists that are chosen from others ----
 
--- each element from which something is chosen is kept exactly where that is
+-- Each element of which a value is chosen is kept exactly if the value is kept.
 abbrev pub AreKeptAlike : {A : Type 0} → (A → Bool) → List Bool → List Bool → List A → ℕ → Type 0
 AreKeptAlike test bs cs xs from = (i n : ℕ) → slice_get (places test xs from) i ≡ Some (from + n) → is_marked bs n ≡ is_marked cs i
 
--- then the choice from what is kept is what is kept of the choice
+-- The values chosen of the kept elements are the kept ones of the chosen values.
 pub kept_chosen : {A B : Type 0} (test : A → Bool) (f : A → Option B) → ((x : A) → is_some (f x) ≡ test x) → (bs cs : List Bool) (xs : List A) (from : ℕ) → length bs ≡ length xs → length (filter_map f xs) ≤ length cs →
     AreKeptAlike test bs cs xs from → filter_map f (kept bs xs) ≡ kept cs (filter_map f xs)
 kept_chosen test f is [] cs [] from l m h = sym (kept_none cs)
@@ -191,7 +192,7 @@ kept_chosen {A} {B} test f is (b ∷ bs) cs (x ∷ xs) from l m h = by (λ cs. k
         let rest = on cs (omega (arith, few)) (λ i n k. told (suc i) (suc n) (k ∙ ap Some (next n))) in
         chosen b c y (filter_map f xs) cs (told 0 0 (ap Some (let z : from ≡ from + 0 = omega arith in z))) e rest ∙ ap (λ o. kept (c ∷ cs) (cons_option o (filter_map f xs))) (sym e)
 
--- two that are kept go to two places
+-- Two different places that are marked have different new places.
 pub marked_apart : (bs : List Bool) (x y : ℕ) → is_marked bs x ≡ true → is_marked bs y ≡ true → kept_before bs x ≡ kept_before bs y → x ≡ y
 marked_apart [] x y h k e = absurd (true≢false (sym h))
 marked_apart (b ∷ bs) zero zero h k e = refl

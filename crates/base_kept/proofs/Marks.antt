@@ -1,4 +1,4 @@
--- Marks of the numbers that a list names: how they are set, and what stands at a place of them.
+-- The marks of the numbers in a list: how they are set, and the mark at a place.
 use Rattle.base_lists.proofs.Common.{◌≡◌, ℕ, zero, suc, ◌+◌, ◌<◌, ◌≢◌, Bool, true, false, ◌||◌, nat_eq, List, [], ◌∷◌, ◌++◌, length, drop, get_or, Some, refl, sym, ap, ◌∙◌, arith, append_assoc, append-nil, zero-add, add-zero, slice_get, slice_set, replicate, flat_map, list_any, at_drop_more}
 use Rattle.base_lists.proofs.Common.{list_any-append, nat_tests, eq-eqb, or-true, or-false}
 use Rattle.base_lists.specs.Members.{is_among}
@@ -10,7 +10,7 @@ pub marked_append : (marks : List Bool) (rs qs : List ℕ) → marked_all marks 
 marked_append marks [] qs = refl
 marked_append marks (r ∷ rs) qs = marked_append (slice_set marks r true) rs qs
 
--- the step over a list whose elements name numbers
+-- One step of a loop over elements that name numbers marks the numbers of the element passed.
 pub segment_step : {X : Type 0} (f : X → List ℕ) (xs : List X) (i : ℕ) (x : X) (marks new : List Bool) → i < length xs → x ≡ get_or xs i x → new ≡ marked_all marks (f x) →
     marked_all new (flat_map f (drop (i + 1) xs)) ≡ marked_all marks (flat_map f (drop i xs))
 segment_step f xs i x marks new lt is e =
@@ -53,7 +53,7 @@ all_marks refs [] n = ap (λ z. named_from z 0 n) (sym (append-nil refs))
 all_marks refs (r ∷ rs) n =
     ap (λ z. marked_all z rs) (one_mark refs 0 n r r (sym (zero-add r))) ∙ all_marks (refs ++ r ∷ []) rs n ∙ ap (λ z. named_from z 0 n) (append_assoc refs (r ∷ []) rs)
 
--- where none was set before
+-- Marks set on a list without marks are those of the numbers in the list.
 pub marks_of : (n : ℕ) (rs : List ℕ) → marked_all (replicate n false) rs ≡ named_from rs 0 n
 marks_of n rs = ap (λ z. marked_all z rs) (sym (no_marks 0 n)) ∙ all_marks [] rs n
 

@@ -1,4 +1,5 @@
--- Tests that are joined. Std has the rest: `and_parts`, `and_from`, `cases_Bool`, `not-true`, `or-true` and others.
+-- Tests that are joined. Std has the rest: `and_parts`, `and_from`, `cases_Bool`, `not-true`,
+-- `or-true` and others.
 use Rattle.std.proofs.Common.{◌≡◌, ◌∙◌, ap, Bool, true, false, ◌&&◌, ◌||◌, cond, ◌⊎◌, inl, inr, refl, sym, Ordering, Less, Equal, Greater, not}
 use Rattle.std.specs.Ordering.{is_eq, ordering_then}
 
@@ -33,29 +34,29 @@ pub right_false : (a b : Bool) → (a || b) ≡ false → b ≡ false
 right_false true b h = cc
 right_false false b h = h
 
--- two tests that pass together are the same
+-- Two tests that imply each other are equal.
 pub same_tests : (a b : Bool) → (a ≡ true → b ≡ true) → (b ≡ true → a ≡ true) → a ≡ b
 same_tests true b f g = sym (f refl)
 same_tests false true f g = g refl
 same_tests false false f g = refl
 
--- which of two a choice was
+-- The value of a choice is the first or the second, as its test says.
 pub cond_is : {A : Type 0} (b : Bool) (x y z : A) → cond b x y ≡ z → ((b ≡ true) × (x ≡ z)) ⊎ ((b ≡ false) × (y ≡ z))
 cond_is true x y z h = inl (refl, h)
 cond_is false x y z h = inr (refl, h)
 
--- two lexicographic steps find equals exactly where both do
+-- A lexicographic comparison of two steps finds equals exactly where both steps do.
 pub both_equal : (o p : Ordering) → is_eq (ordering_then o p) ≡ is_eq o && is_eq p
 both_equal Less p = refl
 both_equal Equal p = refl
 both_equal Greater p = refl
 
--- if a' is true wherever a is, and b' wherever b is, both are true wherever a and b are
+-- A conjunction stays true if each of its two parts does.
 pub and_keeps : (a a' b b' : Bool) → (a ≡ true → a' ≡ true) → (b ≡ true → b' ≡ true) → a && b ≡ true → a' && b' ≡ true
 and_keeps false a' b b' s t h = cc
 and_keeps true a' b b' s t h = ap (λ z. z && b') (s refl) ∙ t h
 
--- if b is true wherever a is, a is never true where b is false
+-- A test that implies another is never true where the other is false.
 pub and_not : (a b : Bool) → (a ≡ true → b ≡ true) → a && not b ≡ false
 and_not false b h = refl
 and_not true b h = ap not (h refl)

@@ -1,4 +1,5 @@
--- Words and lemmas of std and of this crate that most proofs cite, passed on from one place. Declares nothing.
+-- Words and lemmas of std and of this crate that most proofs cite, re-exported from one place. This
+-- file declares nothing.
 pub use Rattle.base_lists.proofs.Bools.{and_false, cond_is, either_true, left_either, left_true, right_either, right_true, same_tests}
 pub use Rattle.base_lists.proofs.Each.{any_from_place, every_at, list_all_each, list_all_from, list_any_there, there_contains}
 pub use Rattle.base_lists.proofs.Filtered.{all_counted, chosen_from, filter_map_most, first_at, has_chosen, is_kept, kept_is, place_back, place_of, place_there, places_many}

@@ -49,7 +49,8 @@ contains_there xs x (k, lt, e) =
 pub there_contains : {A : Type 0} (xs : List A) (p : ℕ) (x : A) → slice_get xs p ≡ Some x → Contains xs x
 there_contains xs p x at = (p, slice_get_within xs p x at, get_or_from_slice_get xs p x x at)
 
--- if `after` says whether `before` is true or an item passes the test, then, joined with the test of x, it says so of the items with x behind them
+-- If `after` says whether `before` is true or an item passes the test, then `after`, joined with
+-- the test of x, says so of the items with x behind them.
 pub any_more : {A : Type 0} (test : A → Bool) (before after last : Bool) (items : List A) (x : A) → after ≡ (before || list_any test items) → last ≡ (after || test x) → last ≡ (before || list_any test (items ++ x ∷ []))
 any_more test before after last items x h g =
     g ∙ ap (λ b. b || test x) h ∙ or_assoc before (list_any test items) (test x)

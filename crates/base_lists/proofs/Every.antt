@@ -27,7 +27,7 @@ pub every_map : {A B : Type 0} (P : A → Type 0) (Q : B → Type 0) (f : A → 
 every_map P Q f keep [] h = tt
 every_map P Q f keep (x ∷ xs) h = (keep x h.0, every_map P Q f keep xs h.1)
 
--- what is chosen of each has the property
+-- Every chosen value has a property if each value that may be chosen has it.
 pub every_some : {A B : Type 0} (Q : B → Type 0) (f : A → Option B) → ((x : A) (y : B) → f x ≡ Some y → Q y) → (xs : List A) → Every Q (filter_map f xs)
 every_some Q f keep [] = tt
 every_some Q f keep (x ∷ xs) = with_first Q f xs (f x) (λ y e. keep x y e) (every_some Q f keep xs)

@@ -1,4 +1,5 @@
--- Filtered lists: what is kept and what is chosen, how much, and the places of what passes a test.
+-- Filtered lists: which elements are kept or chosen, how many, and the places of those that pass a
+-- test.
 use Rattle.std.proofs.Common.{◌≡◌, ◌∙◌, ap, ap₂, sym, subst, refl, ℕ, zero, suc, ◌+◌, ◌≤◌, List, [], ◌∷◌, length, Option, Some, None, is_some, Bool, true, false, cond, ◌&&◌, arith, option_and_then, filter, filter_map, slice_get}
 use Rattle.std.specs.List.{cons_option}
 use Rattle.base_lists.specs.Places.{first_place, places, count_of}
@@ -51,7 +52,8 @@ is_kept {A} test (y ∷ ys) n x h t = by (λ n h. is_kept test ys n x h t) (test
     by on false e zero h = let same : y ≡ x = cc in absurd (let a : true ≡ false = sym t ∙ ap test (sym same) ∙ e in cc)
     by on false e (suc n) h = on n h
 
--- where the test says whether something is chosen, what is kept and what is chosen stand at the same places
+-- If a test says of which elements a value is chosen, the elements that are kept and the values
+-- chosen of them stand at the same places.
 pub chosen_at : {A B : Type 0} (test : A → Bool) (f : A → Option B) (xs : List A) → ((x : A) → is_some (f x) ≡ test x) → (n : ℕ) (x : A) → slice_get (filter test xs) n ≡ Some x → slice_get (filter_map f xs) n ≡ f x
 chosen_at test f [] e n x h = cc
 chosen_at {A} {B} test f (y ∷ ys) e n x h = by (λ n h. chosen_at test f ys e n x h) (test y) (f y) refl (e y) n h
@@ -72,7 +74,7 @@ as_many {A} {B} test f (y ∷ ys) e = by (as_many test f ys e) (f y) (test y) (e
     by on None b k = on ∙ ap (λ b. length (cond b (y ∷ filter test ys) (filter test ys))) k
     by on (Some c) b k = ap suc on ∙ ap (λ b. length (cond b (y ∷ filter test ys) (filter test ys))) k
 
--- choosing twice
+-- Two choices in a row are one choice by the composed function.
 pub chosen_twice : {A B C : Type 0} (f : A → Option B) (g : B → Option C) (xs : List A) → filter_map g (filter_map f xs) ≡ filter_map (λ x. option_and_then g (f x)) xs
 chosen_twice f g [] = refl
 chosen_twice {A} {B} f g (x ∷ xs) = by (chosen_twice f g xs) (f x)
@@ -81,7 +83,7 @@ chosen_twice {A} {B} f g (x ∷ xs) = by (chosen_twice f g xs) (f x)
     by on None = on
     by on (Some b) = ap (cons_option (g b)) on
 
--- what is chosen comes from something
+-- Each chosen value is chosen of an element of the list.
 pub chosen_from : {A B : Type 0} (f : A → Option B) (xs : List A) (n : ℕ) (y : B) → slice_get (filter_map f xs) n ≡ Some y → (x : A) × Has xs x × (f x ≡ Some y)
 chosen_from f [] n y h = absurd (let k = h in cc)
 chosen_from {A} {B} f (x ∷ xs) n y h = by (λ n h. chosen_from f xs n y h) (f x) refl n h
@@ -96,7 +98,8 @@ chosen_from {A} {B} f (x ∷ xs) n y h = by (λ n h. chosen_from f xs n y h) (f 
 
 -- ---- the places whose elements pass a test ----
 
--- the place at i, and what stands there is the one at i of what is chosen
+-- The place at index i is that of an element that passes the test, and the value chosen of this
+-- element is the one at index i.
 pub place_of : {A B : Type 0} (test : A → Bool) (f : A → Option B) (xs : List A) → ((x : A) → is_some (f x) ≡ test x) → (from i n : ℕ) → slice_get (places test xs from) i ≡ Some n →
     (k : ℕ) × (x : A) × (n ≡ from + k) × (slice_get xs k ≡ Some x) × (test x ≡ true) × (slice_get (filter_map f xs) i ≡ f x)
 place_of test f [] e from i n h = absurd (let k = h in cc)
@@ -142,7 +145,7 @@ filter_both {A} f g (x ∷ xs) = by (filter_both f g xs) (g x)
     by on true = inner on (f x)
     by on false = on
 
--- what is chosen of something stands among all that is chosen
+-- The value chosen of an element stands among all chosen values.
 pub has_chosen : {A B : Type 0} (f : A → Option B) (xs : List A) (n : ℕ) (x : A) (y : B) → slice_get xs n ≡ Some x → f x ≡ Some y → Has (filter_map f xs) y
 has_chosen f [] n x y h e = cc
 has_chosen {A} {B} f (z ∷ xs) n x y h e = by (f z) refl n h (λ n h. has_chosen f xs n x y h e)
@@ -161,7 +164,8 @@ pub filter_map_most : {A B : Type 0} (h : A → Option B) (xs : List A) → leng
 filter_map_most h [] = omega arith
 filter_map_most h (x ∷ xs) = omega (arith, length_option (h x) (filter_map h xs), filter_map_most h xs)
 
--- at the places whose elements pass a test stand those that are kept
+-- The values for the places of the elements that pass a test are those for the elements that are
+-- kept.
 pub at_places : {A B : Type 0} (test : A → Bool) (g : A → Option B) (ys : List A) (from : ℕ) (f : ℕ → Option B) → ((i : ℕ) (y : A) → slice_get ys i ≡ Some y → f (from + i) ≡ g y) → all_there f (places test ys from) ≡ all_there g (filter test ys)
 at_places test g [] from f h = refl
 at_places test g (y ∷ ys) from f h = by (test y) (at_places test g ys (suc from) f (λ i z e. ap f (let q : suc from + i ≡ from + suc i = omega arith in q) ∙ h (suc i) z e))
@@ -173,7 +177,8 @@ at_places test g (y ∷ ys) from f h = by (test y) (at_places test g ys (suc fro
     by true r = ap₂ (λ o p. option_and_then (λ y. option_and_then (λ ys. Some (y ∷ ys)) p) o) first r
     by false r = r
 
--- where a test says of what is chosen what another says of that from which it is
+-- The values for the chosen elements that pass a test are those for the original elements that pass
+-- another test, if the two tests agree.
 pub of_chosen : {A B C : Type 0} (f : A → Option B) (test : B → Bool) (kept : A → Bool) (g : B → Option C) (h : A → Option C) (xs : List A) →
     ((n : ℕ) (x : A) → slice_get xs n ≡ Some x → (y : B) × (f x ≡ Some y) × (test y ≡ kept x) × (kept x ≡ true → g y ≡ h x)) → all_there g (filter test (filter_map f xs)) ≡ all_there h (filter kept xs)
 of_chosen f test kept g h [] e = refl
@@ -187,7 +192,7 @@ of_chosen {A} {B} {C} f test kept g h (x ∷ xs) e =
     by y true q r = ap₂ (λ o p. option_and_then (λ y. option_and_then (λ ys. Some (y ∷ ys)) p) o) (q refl) r
     by y false q r = r
 
--- what stands at the place at i passes the test
+-- The place at index i is that of an element that passes the test.
 pub place_back : {A : Type 0} (test : A → Bool) (xs : List A) (from i n : ℕ) → slice_get (places test xs from) i ≡ Some n → (j : ℕ) × (x : A) × (n ≡ from + j) × (slice_get xs j ≡ Some x) × (test x ≡ true)
 place_back test [] from i n h = absurd (let k = h in cc)
 place_back {A} test (y ∷ ys) from i n h = by (λ i h. place_back test ys (suc from) i n h) (test y) refl i h
@@ -201,7 +206,7 @@ place_back {A} test (y ∷ ys) from i n h = by (λ i h. place_back test ys (suc 
     by on true t (suc i) h = more (on i h)
     by on false t i h = more (on i h)
 
--- an element that passes the test has its place among the places
+-- The place of an element that passes the test is among the places.
 pub place_there : {A : Type 0} (test : A → Bool) (xs : List A) (from j : ℕ) (x : A) → slice_get xs j ≡ Some x → test x ≡ true → (i : ℕ) × (slice_get (places test xs from) i ≡ Some (from + j))
 place_there test [] from j x h t = absurd (let k = h in cc)
 place_there {A} test (y ∷ ys) from j x h t = by (λ j h. place_there test ys (suc from) j x h t) (test y) refl j h
@@ -227,7 +232,7 @@ pub all_counted : {A B : Type 0} (h : A → Option B) (xs : List A) → ((n : �
 all_counted h [] e = refl
 all_counted h (z ∷ xs) e = let y = e 0 z refl in ap (λ o. length (cons_option o (filter_map h xs))) y.1 ∙ ap suc (all_counted h xs (λ k. e (suc k)))
 
--- a place stands once among places
+-- Each place stands only once among the places.
 pub places_apart : {A : Type 0} (test : A → Bool) (xs : List A) (from i j n : ℕ) → slice_get (places test xs from) i ≡ Some n → slice_get (places test xs from) j ≡ Some n → i ≡ j
 places_apart test [] from i j n e h = cc
 places_apart {A} test (x ∷ xs) from i j n e h = by (test x) (places_apart test xs (suc from)) i j e h

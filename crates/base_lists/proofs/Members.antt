@@ -1,4 +1,5 @@
--- Which numbers stand in lists that are joined, mapped or chosen from others, and where one stands first.
+-- Which numbers stand in lists that are joined, mapped or chosen from others, and where a number
+-- stands first.
 use Rattle.std.proofs.Common.{◌≡◌, ◌∙◌, ap, sym, subst, refl, ℕ, zero, suc, ◌+◌, List, [], ◌∷◌, ◌++◌, map, nat_eq, true≢false, true, false, cond, ◌||◌, ◌⊎◌, inl, inr, ⊎_elim, Option, Some, None, slice_get, arith, eq-eqb, Contains}
 use Rattle.std.specs.List.{cons_option, filter_map, flat_map}
 use Rattle.std.proofs.lemmas.List.Folds.{list_any-append}
@@ -32,7 +33,7 @@ among_either xs ys x h = either_true _ _ (sym (among_append xs ys x) ∙ h)
 
 -- ---- in what is made of a list ----
 
--- the image of a member is a member of the image
+-- The image of a member of a list is a member of the mapped list.
 pub among_map : (f : ℕ → ℕ) (xs : List ℕ) (x : ℕ) → is_among xs x ≡ true → is_among (map f xs) (f x) ≡ true
 among_map f [] x h = cc
 among_map f (y ∷ ys) x h =
@@ -41,7 +42,7 @@ among_map f (y ∷ ys) x h =
     (λ k. right_either (nat_eq (f x) (f y)) (is_among (map f ys) (f x)) (among_map f ys x k))
     (either_true (nat_eq x y) (is_among ys x) h)
 
--- what is among the lists of all items is among that of one of them
+-- A number in the list of one item is in the joined lists of all items.
 pub among_joined : {A : Type 0} (f : A → List ℕ) (xs : List A) (i : ℕ) (a : A) (x : ℕ) → slice_get xs i ≡ Some a → is_among (f a) x ≡ true → is_among (flat_map f xs) x ≡ true
 among_joined f [] i a x e h = cc
 among_joined f (y ∷ ys) zero a x e h = let same : a ≡ y = cc in among_left (f y) (flat_map f ys) x (subst (λ z. is_among (f z) x ≡ true) same h)

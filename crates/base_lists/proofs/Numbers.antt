@@ -26,7 +26,7 @@ numbers_index n i h = slice_index_is (numbers 0 n) i i (numbers_at 0 n i h ∙ (
 pub number_is : (from count n a : ℕ) → slice_get (numbers from count) n ≡ Some a → (n < count) × (a ≡ from + n)
 number_is from count n a h = grind (arith, slice_get_within, length-numbers, numbers_at)
 
--- the number at a place of the first n is the place
+-- The number at a place of the first n numbers is the place itself.
 pub numbers_is : (n i v : ℕ) → slice_get (numbers 0 n) i ≡ Some v → (i < n) × (i ≡ v)
 numbers_is n i v h =
     let l = slice_get_within (numbers 0 n) i v h in

@@ -9,7 +9,7 @@ pub and_then_is : {A B : Type 0} (o : Option A) (f : A → Option B) (y : B) →
 and_then_is None f y h = absurd (let k = h in cc)
 and_then_is (Some x) f y h = (x, refl, h)
 
--- if nothing is made of what is there, nothing is there
+-- An option that a function maps to none is none.
 pub then_none : {A B : Type 0} (o : Option A) (f : A → B) → option_and_then (λ a. Some (f a)) o ≡ None → o ≡ None
 then_none None f e = refl
 then_none (Some a) f e = cc
@@ -36,7 +36,7 @@ pub right_none : {A : Type 0} (x y : Option A) → option_or x y ≡ None → y 
 right_none None y h = h
 right_none (Some a) y h = cc
 
--- if nothing is given, nothing is given for any element
+-- If no value is given for the list, none is given for any of its elements.
 pub none_given : {A B : Type 0} (f : A → Option B) (xs : List A) (n : ℕ) (x : A) → first_given f xs ≡ None → slice_get xs n ≡ Some x → f x ≡ None
 none_given f [] n x h k = cc
 none_given f (y ∷ ys) zero x h k = let same : y ≡ x = cc in ap f (sym same) ∙ left_none (f y) (first_given f ys) h
@@ -57,7 +57,8 @@ all_there_length {A} {B} f (x ∷ xs) ys h = go (f x) (all_there f xs) (all_ther
     go (Some y) None ih e = cc
     go (Some y) (Some zs) ih e = let same : y ∷ zs ≡ ys = cc in ap length (sym same) ∙ ap suc (ih zs refl)
 
--- where there is something for all, it stands at each one's place
+-- If there is a value for each element, the value for an element stands at the place of the
+-- element.
 pub all_there_at : {A B : Type 0} (f : A → Option B) (xs : List A) (ys : List B) → all_there f xs ≡ Some ys → (n : ℕ) (x : A) → slice_get xs n ≡ Some x → (y : B) × (f x ≡ Some y) × (slice_get ys n ≡ Some y)
 all_there_at f [] ys h n x e = absurd (let k = e in cc)
 all_there_at {A} {B} f (z ∷ xs) ys h n x e = by (λ rest r n e. all_there_at f xs rest r n x e) (f z) refl (all_there f xs) refl h n e
@@ -75,7 +76,7 @@ all_there_at {A} {B} f (z ∷ xs) ys h n x e = by (λ rest r n e. all_there_at f
         let r = on rest j n e in
         (r.0, r.1, ap (λ l. slice_get l (suc n)) (sym list) ∙ r.2)
 
--- what stands at a place was found for the element at that place
+-- The value at a place was found for the element at that place.
 pub all_there_back : {A B : Type 0} (f : A → Option B) (xs : List A) (ys : List B) → all_there f xs ≡ Some ys → (n : ℕ) (y : B) → slice_get ys n ≡ Some y → (x : A) × (slice_get xs n ≡ Some x) × (f x ≡ Some y)
 all_there_back f xs ys h n y at =
     let many = all_there_length f xs ys h in
@@ -84,7 +85,7 @@ all_there_back f xs ys h n y at =
     let z = all_there_at f xs ys h n x.0 x.1 in
     (x.0, x.1, z.1 ∙ sym z.2 ∙ at)
 
--- something is there for each, and stands at its place
+-- Each element has a value, which stands at the place of the element.
 pub record AllThere {A B : Type 0} (f : A → Option B) (xs : List A) : Type 0 where
   pub results : List B
   pub are : all_there f xs ≡ Some results

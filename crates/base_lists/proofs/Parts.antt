@@ -4,7 +4,7 @@ use Rattle.base_lists.specs.Parts.{split_at, slice, copies, overwrite}
 use Rattle.base_lists.proofs.Options.{and_then_is, is_some_there}
 use Rattle.std.proofs.lemmas.List.{length-append, length-drop}
 
--- a list that is long enough is split
+-- A list of at least n elements is split into its first n elements and the rest.
 pub split_take : {A : Type 0} (n : ℕ) (xs : List A) → n ≤ length xs → split_at n xs ≡ Some (take n xs, drop n xs)
 split_take zero xs le = refl
 split_take (suc n) [] le = absurd (omega (arith, le))
@@ -40,7 +40,7 @@ copies_length (suc n) v = ap suc (copies_length n v)
 pub overwritten_length : {A : Type 0} (xs : List A) (n : ℕ) (ys zs : List A) → overwrite xs n ys ≡ Some zs → length zs ≡ length xs
 overwritten_length xs n ys zs e = let p = and_then_is (split_at n xs) _ zs e in grind (arith, length-append, split_lengths n xs, split_lengths (length ys) p.0.1)
 
--- where the others fit, they are written, and the list is as long as it was
+-- If the new elements fit into the list, they are written, and its length stays the same.
 pub overwrite_fits : {A : Type 0} (xs ys : List A) (n : ℕ) → n + length ys ≤ length xs → (zs : List A) × (overwrite xs n ys ≡ Some zs) × (length zs ≡ length xs)
 overwrite_fits xs ys n h =
     let zs = is_some_there (overwrite xs n ys) (grind (arith, split_take, length-drop)) in

@@ -1,7 +1,8 @@
--- What stands at a place of a list, and of one that is mapped, joined or written. Std has `slice_get_within`, `slice_get_past` and `slice_get-map`.
+-- What stands at a place of a list, and of a list that is mapped, joined or written. Std has
+-- `slice_get_within`, `slice_get_past` and `slice_get-map`.
 use Rattle.std.proofs.Common.{◌≡◌, ◌≢◌, ◌∙◌, ap, refl, ℕ, zero, suc, ◌+◌, ◌<◌, ◌≤◌, List, [], ◌∷◌, ◌++◌, map, length, drop, replicate, Some, None, arith, ◌⊎◌, inl, inr, slice_get, slice_set, slice_index, ap₂, sym}
 
--- x stands somewhere in xs
+-- The element x stands somewhere in the list xs.
 abbrev pub Has : {A : Type 0} → List A → A → Type 0
 Has xs x = (p : ℕ) × (slice_get xs p ≡ Some x)
 
@@ -36,7 +37,7 @@ pub map_twice : {A B C : Type 0} (f : B → C) (g : A → B) (xs : List A) → m
 map_twice f g [] = refl
 map_twice f g (x ∷ xs) = ap (λ ys. f (g x) ∷ ys) (map_twice f g xs)
 
--- a list of which each element stays
+-- A map that leaves each element unchanged leaves the list unchanged.
 pub map_stays : {A : Type 0} (f : A → A) (xs : List A) → ((n : ℕ) (x : A) → slice_get xs n ≡ Some x → f x ≡ x) → map f xs ≡ xs
 map_stays f [] h = refl
 map_stays f (x ∷ xs) h = ap₂ (λ y ys. y ∷ ys) (h 0 x refl) (map_stays f xs (λ n. h (suc n)))
@@ -63,7 +64,7 @@ has_left xs ys x h = (h.0, append_at_left xs ys h.0 x h.1)
 pub has_right : {A : Type 0} (xs ys : List A) (x : A) → Has ys x → Has (xs ++ ys) x
 has_right xs ys x h = (length xs + h.0, append_right xs ys h.0 ∙ h.1)
 
--- an entry of two lists joined is one of the first or of the second
+-- An entry of two joined lists is an entry of the first or of the second.
 pub append_from : {A : Type 0} (xs ys : List A) (n : ℕ) (x : A) → slice_get (xs ++ ys) n ≡ Some x → (slice_get xs n ≡ Some x) ⊎ ((k : ℕ) × (n ≡ length xs + k) × (slice_get ys k ≡ Some x))
 append_from [] ys n x h = inr (n, omega arith, h)
 append_from (z ∷ xs) ys zero x h = inl h
@@ -73,7 +74,8 @@ append_from (z ∷ xs) ys (suc n) x h = by (append_from xs ys n x h)
     by (inl e) = inl e
     by (inr r) = let e = r.1 in inr (r.0, omega (arith, e), r.2)
 
--- indices into two lists in a row
+-- An index into two joined lists is one into the first list or, from its length on, one into the
+-- second.
 pub index_left : (xs ys : List ℕ) (i : ℕ) → i < length xs → slice_index (xs ++ ys) i ≡ slice_index xs i
 index_left xs ys i lt = let x = slice_get_there xs i lt in slice_index_is (xs ++ ys) i x.0 (append_at_left xs ys i x.0 x.1) ∙ sym (slice_index_is xs i x.0 x.1)
 
@@ -90,7 +92,7 @@ push_before [] y (suc n) x ne h = cc
 push_before (z ∷ xs) y zero x ne h = h
 push_before (z ∷ xs) y (suc n) x ne h = push_before xs y n x (omega arith) h
 
--- a place in a list with one more element is a place of the list, or the last
+-- An entry of a list with one more element is an entry of the list or the new element.
 pub push_from : {A : Type 0} (xs : List A) (y : A) (n : ℕ) (x : A) → slice_get (xs ++ y ∷ []) n ≡ Some x → (slice_get xs n ≡ Some x) ⊎ (x ≡ y)
 push_from [] y zero x e = inr (let same : x ≡ y = cc in same)
 push_from [] y (suc n) x e = cc

@@ -9,27 +9,27 @@ use Rattle.base_lists.proofs.Places.{set_at, set_other, slice_get_there}
 
 -- ---- options ----
 
--- what follows two related options is related if it is so for any two related values
+-- What follows two related options is related if what follows any two related values is.
 pub then_rel : {A B C D : Type 0} {P : A → B → Type 0} {Q : C → D → Type 0} {o : Option A} {p : Option B} {f : A → Option C} {g : B → Option D} → OptRel P o p → ((a : A) (b : B) → P a b → OptRel Q (f a) (g b)) → OptRel Q (option_and_then f o) (option_and_then g p)
 then_rel none h = none
 then_rel (some q) h = h _ _ q
 
--- the same, where what follows may use what the first option has
+-- A form of the lemma above in which the premise also has that the first option holds the value.
 pub then_rel_is : {A B C D : Type 0} {P : A → B → Type 0} {Q : C → D → Type 0} {o : Option A} {p : Option B} {f : A → Option C} {g : B → Option D} → OptRel P o p → ((a : A) (b : B) → o ≡ Some a → P a b → OptRel Q (f a) (g b)) → OptRel Q (option_and_then f o) (option_and_then g p)
 then_rel_is none h = none
 then_rel_is (some q) h = h _ _ refl q
 
--- what follows one option in two ways is related if it is so for each value that the option may have
+-- What follows one option in two ways is related if what follows each value is.
 pub then_same : {A C D : Type 0} {Q : C → D → Type 0} {f : A → Option C} {g : A → Option D} (o : Option A) → ((a : A) → OptRel Q (f a) (g a)) → OptRel Q (option_and_then f o) (option_and_then g o)
 then_same None h = none
 then_same (Some a) h = h a
 
--- the same, where what follows may use what the option has
+-- A form of the lemma above in which the premise also has that the option holds the value.
 pub then_same_is : {A C D : Type 0} {Q : C → D → Type 0} {f : A → Option C} {g : A → Option D} (o : Option A) → ((a : A) → o ≡ Some a → OptRel Q (f a) (g a)) → OptRel Q (option_and_then f o) (option_and_then g o)
 then_same_is None h = none
 then_same_is (Some a) h = h a refl
 
--- what follows two related options is equal if it is so for any two related values
+-- What follows two related options is equal if what follows any two related values is.
 pub then_eq : {A B C : Type 0} {P : A → B → Type 0} {o : Option A} {p : Option B} {f : A → Option C} {g : B → Option C} → OptRel P o p → ((a : A) (b : B) → P a b → f a ≡ g b) → option_and_then f o ≡ option_and_then g p
 then_eq r h = grind arith
 
@@ -54,14 +54,14 @@ module _ {A B : Type 0} {P : A → B → Type 0} where
   pub opt_at : {o p : Option A} {q r : Option B} → o ≡ p → q ≡ r → OptRel P p r → OptRel P o q
   opt_at e f h = rw (e, f) h
 
-  -- two options are related if each is there where the other is, and what they have is related
+  -- Two options are related if each holds a value where the other does, and the values are related.
   pub both_or_none : (o : Option A) (p : Option B) → ((a : A) (b : B) → o ≡ Some a → p ≡ Some b → P a b) → ((a : A) → o ≡ Some a → (b : B) × (p ≡ Some b)) → ((b : B) → p ≡ Some b → (a : A) × (o ≡ Some a)) → OptRel P o p
   both_or_none None None pair left right = none
   both_or_none (Some a) (Some b) pair left right = some (pair a b refl refl)
   both_or_none (Some a) None pair left right = cc (left a refl).1
   both_or_none None (Some b) pair left right = cc (right b refl).1
 
--- the same, with a test of whether they are there
+-- A form of the lemma above with a test of whether the options hold a value.
 pub alike_there : {A B : Type 0} {P : A → B → Type 0} (o : Option A) (p : Option B) → is_some o ≡ is_some p → ((a : A) (b : B) → o ≡ Some a → p ≡ Some b → P a b) → OptRel P o p
 alike_there o p e pair = grind (arith, none, some)
 
@@ -126,17 +126,17 @@ pub length_rel : {A B : Type 0} {P : A → B → Type 0} {xs : List A} {ys : Lis
 length_rel nil = refl
 length_rel (cons p r) = ap suc (length_rel r)
 
--- if Q relates whatever P relates, it relates the lists that P relates item by item
+-- If Q relates all values that P relates, Q relates all lists that P relates item by item.
 pub each_rel : {A B : Type 0} {P Q : A → B → Type 0} {xs : List A} {ys : List B} → ((a : A) (b : B) → P a b → Q a b) → ListRel P xs ys → ListRel Q xs ys
 each_rel h nil = nil
 each_rel h (cons p r) = cons (h _ _ p) (each_rel h r)
 
--- a list is related to itself, if each item is
+-- A list is related to itself if each item is.
 pub self_rel : {A : Type 0} {P : A → A → Type 0} (xs : List A) → ((x : A) → P x x) → ListRel P xs xs
 self_rel [] h = nil
 self_rel (x ∷ xs) h = cons (h x) (self_rel xs h)
 
--- a list is related to what a function makes of it, if each item is related to what the function makes of the item
+-- A list is related to its image under a function if each item is related to its image.
 pub placed_rel : {A B : Type 0} {P : A → B → Type 0} (f : A → B) (xs : List A) → ((n : ℕ) (x : A) → slice_get xs n ≡ Some x → P x (f x)) → ListRel P xs (map f xs)
 placed_rel f [] h = nil
 placed_rel f (x ∷ xs) h = cons (h 0 x refl) (placed_rel f xs (λ n. h (suc n)))
@@ -195,7 +195,8 @@ each_then P xs ys zs trans h k a x e =
     let z = k a y.0 y.1 in
     (z.0, z.1, trans x y.0 z.0 y.2 z.2)
 
--- one place is written with what is related to what stands there, if anything does
+-- A list is related to itself after a write if the element written over, if any, is related to the
+-- new element.
 pub each_set : {A : Type 0} (P : A → A → Type 0) (xs : List A) (n : ℕ) (new : A) → ((x : A) → P x x) → ((old : A) → slice_get xs n ≡ Some old → P old new) → EachRelated P xs (slice_set xs n new)
 each_set {A} P xs n new self like a x e = by (eqb_tells n a)
   where

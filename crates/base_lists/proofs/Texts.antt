@@ -24,11 +24,13 @@ some_of : (b : Bool) (o : Option (Unit {0})) → is_some (cond b (Some tt) o) �
 some_of false o = refl
 some_of true o = refl
 
--- After a text is put into a map, a text is found there if it is this one, which b says, or was found before.
+-- After a text is put into a map, a text is found there if it is this one, which b says, or was
+-- found before.
 pub map_more : (b : Bool) (m n : Option (Unit {0})) → n ≡ cond b (Some tt) m → is_some n ≡ (b || is_some m)
 map_more b m n e = ap is_some e ∙ some_of b m
 
--- If f tells whether a text is in the list, and g whether it is n or f says so, then g tells whether it is in the list with n behind it.
+-- If f tells whether a text is in the list, and g whether the text is n or f says so, then g tells
+-- whether it is in the list with n behind it.
 pub known_more : (f : List ℕ → Bool) (g : List ℕ → Bool) (before : List (List ℕ)) (n : List ℕ) → ((text : List ℕ) → f text ≡ list_any (bytes_eq text) before) → ((text : List ℕ) → g text ≡ (bytes_eq n text || f text)) → (text : List ℕ) → g text ≡ list_any (bytes_eq text) (before ++ n ∷ [])
 known_more f g before n h k text =
     k text ∙ ap (λ b. bytes_eq n text || b) (h text) ∙ swap (bytes_eq n text) (list_any (bytes_eq text) before)

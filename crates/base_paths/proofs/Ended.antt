@@ -1,8 +1,9 @@
+-- The ends of paths: the function that follows a path finds its end, which is unique.
 use Rattle.base_lists.proofs.Common.{◌≡◌, ◌∙◌, sym, ap, refl, subst, inl, inr, ℕ, zero, suc, ◌<◌, ◌≤◌, ◌-◌, List, [], ◌∷◌, length, arith, slice_get, Option, Some, None, slice_get_within, cases_eq, pigeons, Has, slice_get_there}
 use Rattle.base_paths.specs.Paths.{Reaches, IsEnd, by_step, followed, the_end}
 use Rattle.base_paths.specs.Paths.Reaches.{stop, go}
 
--- after k steps the path ends at e
+-- The path from a place ends after k steps, at e.
 abbrev pub EndsIn : List (Option ℕ) → ℕ → ℕ → ℕ → Type 0
 EndsIn steps zero n e = (slice_get steps n ≡ Some None) × (n ≡ e)
 EndsIn steps (suc k) n e = (m : ℕ) × (slice_get steps n ≡ Some (Some m)) × EndsIn steps k m e
@@ -24,7 +25,7 @@ inside : (steps : List (Option ℕ)) (k n e : ℕ) → EndsIn steps k n e → n 
 inside steps zero n e h = slice_get_within steps n None h.0
 inside steps (suc k) n e h = slice_get_within steps n (Some h.0) h.1
 
--- the place after i steps
+-- The place that the path from a place reaches after i steps.
 abbrev node : List (Option ℕ) → ℕ → ℕ → ℕ
 node steps zero n = n
 node steps (suc i) n = by_step n (node steps i) n (slice_get steps n)
@@ -55,7 +56,7 @@ has_number (suc n) k h = elim (cases_eq k n) [
   | inr ne ↦ let r : Has (numbers n) k = has_number n k (omega arith) in (suc r.0, r.1)
 ]
 
--- a path that ends has no more places than there are
+-- A path that ends has at most as many places as the list.
 short : (steps : List (Option ℕ)) (k n e : ℕ) → EndsIn steps k n e → suc k ≤ length steps
 short steps k n e r =
     let most = pigeons (suc k) (λ i. node steps i n) (numbers (length steps))
@@ -81,7 +82,7 @@ sound steps (suc most) n e h = by steps most n e (slice_get steps n) refl h (λ 
     by steps most n e (Some None) at h rest = let same : n ≡ e = cc in subst (Reaches steps n) same (stop n at)
     by steps most n e (Some (Some m)) at h rest = go n m e at (rest m h)
 
--- the function of steps tells the end of the path
+-- The function `the_end` gives the end of the path.
 pub the_end_right : (steps : List (Option ℕ)) (n : ℕ) → IsEnd steps n (the_end steps n)
 the_end_right steps n = by (followed steps (length steps) n) refl
   where
@@ -89,7 +90,7 @@ the_end_right steps n = by (followed steps (length steps) n) refl
     by (Some e) h = sound steps (length steps) n e h
     by None h = λ e l. let c = counted steps n e l in let s = short steps c.0 n e c.1 in let f = followed_is steps c.0 (length steps) n e (omega arith) c.1 in absurd (cc)
 
--- a path has one end
+-- A path has only one end.
 pub one_end : (steps : List (Option ℕ)) (n : ℕ) (a b : Option ℕ) → IsEnd steps n a → IsEnd steps n b → a ≡ b
 one_end steps n None None h k = refl
 one_end steps n None (Some e) h k = absurd (h e k)
@@ -99,7 +100,7 @@ one_end steps n (Some d) (Some e) h k =
     let g = counted steps n e k in let i = followed_is steps g.0 (length steps) n e (let s = short steps g.0 n e g.1 in omega arith) g.1 in
     cc
 
--- a list of ends is what the function tells
+-- A list of the ends of all paths has at each place what `the_end` gives.
 pub ends_told : (steps ends : List (Option ℕ)) → length ends ≡ length steps → ((n : ℕ) (end : Option ℕ) → slice_get ends n ≡ Some end → IsEnd steps n end)
     → (n : ℕ) → n < length steps → slice_get ends n ≡ Some (the_end steps n)
 ends_told steps ends size right n h =

@@ -1,4 +1,4 @@
--- Places with something to end with, by the places at which going on stops.
+-- What paths end with, by the places at which they stop.
 use Rattle.base_lists.proofs.Common.{◌≡◌, ◌∙◌, sym, ap, refl, subst, ℕ, ◌<◌, List, Option, Some, None, map, slice_get, slice_get-map, length-map}
 use Rattle.std.specs.Option.{option_and_then, option_map}
 use Rattle.base_paths.specs.declared.follow.Step.{Step}
@@ -8,7 +8,7 @@ use Rattle.base_paths.specs.Paths.Reaches.{stop, go}
 use Rattle.base_paths.specs.Steps.{LeadsTo, IsEnding, AreEndings, AreNamed, next_place, ending_of}
 use Rattle.base_paths.specs.Steps.LeadsTo.{there, on}
 
--- the entry of a place, by the place to go on to
+-- A place that has a next place leads to it.
 went : {E : Type 0} (steps : List (Step E)) (n m : ℕ) → slice_get (map next_place steps) n ≡ Some (Some m) → slice_get steps n ≡ Some (Leads m)
 went {E = E} steps n m h = by (slice_get steps n) refl (sym (slice_get-map next_place steps n) ∙ h)
   where
@@ -29,7 +29,7 @@ reaches : {E : Type 0} (steps : List (Step E)) (n : ℕ) (e : E) → LeadsTo ste
 reaches steps n e (there _ _ h) = (n, stop n (slice_get-map next_place steps n ∙ ap (option_map next_place) h))
 reaches steps n e (on _ m _ h l) = let r = reaches steps m e l in (r.0, go n m r.0 (slice_get-map next_place steps n ∙ ap (option_map next_place) h) r.1)
 
--- the place at which going on stops is one that leads to nothing further
+-- The place at which a path stops is a place that holds what the path ends with.
 stop_leads : {E : Type 0} (steps : List (Step E)) (n m : ℕ) (e : E) → Reaches (map next_place steps) n m → LeadsTo steps n e → slice_get steps m ≡ Some (Stops e)
 stop_leads steps n m e (stop _ h) (there _ _ k) = k
 stop_leads steps n m e (stop _ h) (on _ j _ k l) = let x = slice_get-map next_place steps n ∙ ap (option_map next_place) k in absurd (cc)
@@ -49,7 +49,7 @@ one_ending {E = E} steps n (Some m) h = by (slice_get steps m) refl
     by (Some (Stops d)) is = leads steps n m d h is
     by (Some Nowhere) is = λ e l. let x = stop_leads steps n m e h l in absurd (cc)
 
--- the endings of the places at which going on stops
+-- The endings of all paths are those of the places at which they stop.
 pub endings_right : {E : Type 0} (steps : List (Step E)) (ends : List (Option ℕ)) → AreEnds (map next_place steps) ends
     → AreEndings steps (map (option_and_then (λ m. option_and_then ending_of (slice_get steps m))) ends)
 endings_right {E = E} steps ends are = record {

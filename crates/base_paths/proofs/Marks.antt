@@ -1,22 +1,23 @@
+-- Walks that mark the places that they pass and give one answer for all of them.
 use Rattle.base_lists.proofs.Common.{◌≡◌, ◌⊎◌, inl, inr, ℕ, ◌+◌, ◌<◌, ◌≤◌, List, [], ◌∷◌, ◌++◌, Option, Some, None, length, set, slice_get, refl, sym, ◌∙◌, ap, subst, arith, slice_get_within, cases_eq, set_at, set_other, push_last, push_before}
 use Rattle.std.proofs.Common.{length-set}
 use Rattle.base_paths.specs.Paths.{Reaches, IsEnd, Marked, StayMarked}
 use Rattle.base_paths.specs.Paths.Reaches.{stop, go}
 use Rattle.base_paths.proofs.Lists.{got_left}
 
--- what a place reaches, the place after it reaches
+-- The end that a place reaches is also reached from the next place.
 pub next_reaches : (steps : List (Option ℕ)) (n e m : ℕ) → slice_get steps n ≡ Some (Some m) → Reaches steps n e → Reaches steps m e
 next_reaches steps n e m s (stop _ h) = absurd (cc)
 next_reaches steps n e m s (go _ k _ h l) = let P : ℕ → Type 0 = λ x. Reaches steps x e in let same : k ≡ m = cc in subst P same l
 
--- a place that this walk has passed
+-- A place that the current walk has passed.
 pub record IsPassed (steps marks answers : List (Option ℕ)) (at n w : ℕ) : Type 0 where
   pub this : w ≡ length answers
   pub to : (e : ℕ) → Reaches steps at e → Reaches steps n e
   pub from : (e : ℕ) → Reaches steps n e → Reaches steps at e
   pub next : (m : ℕ) × (slice_get steps n ≡ Some (Some m)) × ((slice_get marks m ≡ Some (Some (length answers))) ⊎ (m ≡ at))
 
--- a place that an earlier walk took
+-- A place that an earlier walk has passed, with the answer of that walk.
 pub record IsAnswered (steps answers : List (Option ℕ)) (n w : ℕ) : Type 0 where
   pub answer : Option ℕ
   pub stands : slice_get answers w ≡ Some answer
@@ -25,7 +26,7 @@ pub record IsAnswered (steps answers : List (Option ℕ)) (n w : ℕ) : Type 0 w
 abbrev pub IsMarked : List (Option ℕ) → ℕ → Type 0
 IsMarked marks n = (w : ℕ) × (slice_get marks n ≡ Some (Some w))
 
--- a walk from `start` has come to `at`
+-- A walk from the place `start` has come to the place `at`.
 pub record Walking (steps old marks answers : List (Option ℕ)) (start at : ℕ) : Type 0 where
   pub sizes : length marks ≡ length steps
   pub inside : at < length steps
@@ -33,7 +34,7 @@ pub record Walking (steps old marks answers : List (Option ℕ)) (start at : ℕ
   pub keeps : StayMarked old marks
   pub begun : (at ≡ start) ⊎ IsMarked marks start
 
--- a write at a place that had no mark keeps the marks
+-- A write of a mark at a place keeps each other place marked.
 pub marked_more : (marks : List (Option ℕ)) (at w n v : ℕ) → at < length marks → slice_get marks n ≡ Some (Some v) → IsMarked (set marks at (Some w)) n
 marked_more marks at w n v inside h = elim (cases_eq n at) [
   | inl e ↦ (w, subst (λ (x : ℕ). slice_get (set marks at (Some w)) x ≡ Some (Some w)) (sym e) (set_at marks at (Some w) inside))
@@ -47,14 +48,14 @@ pub begun_more : (marks : List (Option ℕ)) (at w start : ℕ) → at < length 
 begun_more marks at w start inside (inl e) = (w, subst (λ (x : ℕ). slice_get (set marks at (Some w)) x ≡ Some (Some w)) e (set_at marks at (Some w) inside))
 begun_more marks at w start inside (inr b) = marked_more marks at w start b.0 inside b.1
 
--- the mark at a place after a write at `at`
+-- The mark at a place after a write at the place `at`.
 mark_after : (marks : List (Option ℕ)) (at w n : ℕ) → at < length marks → (slice_get marks n ≡ Some (Some w)) ⊎ (n ≡ at) → slice_get (set marks at (Some w)) n ≡ Some (Some w)
 mark_after marks at w n inside h = elim (cases_eq n at) [
   | inl e ↦ subst (λ (x : ℕ). slice_get (set marks at (Some w)) x ≡ Some (Some w)) (sym e) (set_at marks at (Some w) inside)
   | inr ne ↦ set_other marks at n (Some w) ne ∙ elim h [ inl was ↦ was | inr e ↦ absurd (ne e) ]
 ]
 
--- one step on
+-- A walk that goes on to the next place marks the place that it leaves.
 pub walk_on : (steps old marks answers : List (Option ℕ)) (start at m : ℕ) → Walking steps old marks answers start at
     → slice_get steps at ≡ Some (Some m) → m < length steps
     → Walking steps old (set marks at (Some (length answers))) answers start m
@@ -87,7 +88,7 @@ walk_on steps old marks answers start at m w step there =
       ];
     }
 
--- an answer for all that was passed
+-- One answer serves all places that the walk has passed.
 answered : (steps old marks answers : List (Option ℕ)) (start at : ℕ) (answer : Option ℕ) → Walking steps old marks answers start at
     → ((n w : ℕ) → slice_get marks n ≡ Some (Some w) → IsPassed steps marks answers at n w → IsEnd steps n answer)
     → Marked steps marks (answers ++ answer ∷ [])
@@ -100,7 +101,7 @@ same_end : (steps : List (Option ℕ)) (n at : ℕ) (end : Option ℕ) → ((e :
 same_end steps n at (Some e) to from h = to e h
 same_end steps n at None to from h = λ e l. h e (from e l)
 
--- the walk stops here
+-- A walk that stops at a place answers with this place.
 pub walk_stop : (steps old marks answers : List (Option ℕ)) (start at : ℕ) → Walking steps old marks answers start at
     → slice_get steps at ≡ Some None
     → Marked steps (set marks at (Some (length answers))) (answers ++ Some at ∷ [])
@@ -117,7 +118,7 @@ walk_stop steps old marks answers start at w step n v h =
       ]
     ]
 
--- the walk meets an earlier one
+-- A walk that meets an earlier walk takes over its answer.
 pub walk_met : (steps old marks answers : List (Option ℕ)) (start at v : ℕ) (answer : Option ℕ) → Walking steps old marks answers start at
     → slice_get marks at ≡ Some (Some v) → slice_get answers v ≡ Some answer
     → Marked steps marks (answers ++ answer ∷ [])
@@ -127,7 +128,7 @@ walk_met steps old marks answers start at v answer w h stands = answered steps o
       | inr q ↦ let short : v < length answers = slice_get_within answers v answer stands in absurd (omega (arith, q.this))
     ]))
 
--- what this walk has passed and met again reaches no end
+-- The places that a walk has passed reach no end if the walk meets one of them again.
 no_end : (steps old marks answers : List (Option ℕ)) (start at : ℕ) → Walking steps old marks answers start at
     → slice_get marks at ≡ Some (Some (length answers))
     → (n e : ℕ) → Reaches steps n e → slice_get marks n ≡ Some (Some (length answers)) → ⊥
@@ -144,7 +145,7 @@ no_end steps old marks answers start at w self n e (go _ m _ h l) k = elim (w.kn
       ])
 ]
 
--- the walk meets itself
+-- A walk that meets itself answers that there is no end.
 pub walk_round : (steps old marks answers : List (Option ℕ)) (start at v : ℕ) → Walking steps old marks answers start at
     → slice_get marks at ≡ Some (Some v) → length answers ≤ v
     → Marked steps marks (answers ++ None ∷ [])
@@ -154,14 +155,14 @@ walk_round steps old marks answers start at v w h late = elim (w.known at v h) [
       no_end steps old marks answers start at w (h ∙ ap (λ (x : ℕ). Some (Some x)) q.this) n e l (k ∙ ap (λ (x : ℕ). Some (Some x)) p.this))
 ]
 
--- one more place taken
+-- All places before i + 1 are marked if those before i and the place i are.
 pub all_more : (old new : List (Option ℕ)) (i : ℕ) → ((n : ℕ) → n < i → IsMarked old n) → StayMarked old new → IsMarked new i → (n : ℕ) → n < i + 1 → IsMarked new n
 all_more old new i all keeps here n h = elim (cases_eq n i) [
   | inl e ↦ subst (IsMarked new) (sym e) here
   | inr ne ↦ let b : IsMarked old n = all n (omega arith) in keeps n b.0 b.1
 ]
 
--- one more end
+-- A list of ends with one more right end is a list of right ends.
 pub ends_more : (steps ends : List (Option ℕ)) (end : Option ℕ) (i : ℕ) → length ends ≡ i → ((n : ℕ) (a : Option ℕ) → slice_get ends n ≡ Some a → IsEnd steps n a) → IsEnd steps i end
     → (n : ℕ) (a : Option ℕ) → slice_get (ends ++ end ∷ []) n ≡ Some a → IsEnd steps n a
 ends_more steps ends end i count all here n a h = elim (cases_eq n (length ends)) [
@@ -172,6 +173,6 @@ ends_more steps ends end i count all here n a h = elim (cases_eq n (length ends)
   | inr ne ↦ all n a (push_before ends end n a ne h)
 ]
 
--- what is marked has the answer of its walk
+-- The end of the path from a marked place is the answer of the walk that marked it.
 pub marked_end : (steps marks answers : List (Option ℕ)) (n w : ℕ) (answer : Option ℕ) → Marked steps marks answers → slice_get marks n ≡ Some (Some w) → (slice_get answers w ≡ Some answer) → IsEnd steps n answer
 marked_end steps marks answers n w answer h m a = let k = h n w m in let same : k.0 ≡ answer = cc in subst (IsEnd steps n) same k.2

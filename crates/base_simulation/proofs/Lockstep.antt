@@ -1,4 +1,4 @@
--- From a relation that each step keeps, with equal events: the same events.
+-- Lockstep: machines whose steps keep a relation, with equal events, have equal traces.
 use Rattle.std.proofs.Common.{zero, suc, refl, ap₂}
 use Rattle.std.specs.List.{cons_option}
 use Rattle.base_simulation.specs.Simulations.{LockstepTracesAreEqual}

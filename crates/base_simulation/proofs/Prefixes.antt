@@ -1,4 +1,4 @@
--- What a machine shows: events of fewer steps come first in those of more.
+-- Traces of one machine: that of fewer steps is a prefix of that of more steps.
 use Rattle.std.proofs.Common.{◌≡◌, ℕ, zero, suc, ◌+◌, ◌-◌, ◌≤◌, List, [], ◌++◌, Option, Some, None, refl, sym, ap, subst, ◌∙◌, arith, append_assoc}
 use Rattle.std.specs.List.{cons_option}
 use Rattle.base_simulation.specs.Machines.{Machine, events_of, state_after, IsPrefix, ShorterRunsArePrefixes}
@@ -46,6 +46,6 @@ module _ {S E : Type 0} (t : Machine S E) where
   pub shorter : ShorterRunsArePrefixes t
   shorter s n k = is_prefix (more_events n k s)
 
-  -- what is seen in some steps is seen in more
+  -- A prefix of the trace of some steps is a prefix of the trace of more steps.
   pub in_more_steps : (xs : List E) (n m : ℕ) (s : S) → n ≤ m → IsPrefix xs (events_of t s n) → IsPrefix xs (events_of t s m)
   in_more_steps xs n m s h p = is_prefix (prefix_trans (record { rest = p.0; is = p.1 }) (later n m s h))

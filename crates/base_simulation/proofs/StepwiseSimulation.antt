@@ -1,11 +1,13 @@
--- A relation that each step keeps lasts: as many steps as one likes, and so the same is shown.
+-- Simulations given step by step: a relation that the next steps keep bounds the traces of any
+-- number of steps.
 use Rattle.std.proofs.Common.{◌≡◌, ℕ, zero, suc, ◌+◌, ◌*◌, ◌≤◌, None}
 use Rattle.base_simulation.specs.Machines.{Machine, events_of, state_after, IsPrefix}
 use Rattle.base_simulation.specs.Simulations.{Follows, Answers, by_some}
 use Rattle.base_simulation.specs.Simulations as simulations
 use Rattle.base_simulation.proofs.Stuttering.{followed_traces_are_bounded, answered_traces_are_bounded}
 
--- what the next steps from related states are
+-- The next steps from related states: both machines step with equal events, or one of them makes a
+-- stuttering step that is left to it.
 pub data StepsTogether {S T E : Type 0} (t : Machine S E) (u : Machine T E) (I : ℕ → ℕ → S → T → Type 0) : ℕ → ℕ → S → T → Type 0 where
   both : {d e : ℕ} {r : S} {q : T} → (t r).1 ≡ (u q).1 → I d e (t r).0 (u q).0 → StepsTogether t u I d e r q
   second : {d e : ℕ} {r : S} {q : T} → (u q).1 ≡ None → I d e r (u q).0 → StepsTogether t u I (suc d) e r q
@@ -20,12 +22,13 @@ follows_by_steps {S} {T} t u I next (suc n) d e r q i = go (next d e r q i) (λ 
     go (second p j) more = simulations.second p (more _ _ _ _ j)
     go (first p j) more = simulations.first p (more _ _ _ _ j)
 
--- so each shows what the other shows, within the stuttering steps that are left to them
+-- The traces of related states are prefixes of each other, up to the stuttering steps left.
 pub stuttering_traces_are_equal : {S T E : Type 0} (t : Machine S E) (u : Machine T E) (I : ℕ → ℕ → S → T → Type 0) → ((d e : ℕ) (r : S) (q : T) → I d e r q → StepsTogether t u I d e r q) → (d e : ℕ) (r : S) (q : T) → I d e r q →
     (n : ℕ) → IsPrefix (events_of t r n) (events_of u q (n + d)) × IsPrefix (events_of u q n) (events_of t r (n + e))
 stuttering_traces_are_equal t u I next d e r q i = followed_traces_are_bounded t u d e r q (λ steps. follows_by_steps t u I next steps d e r q i)
 
--- the second answers the next step of the first by one to c, and these lead to related states
+-- The second machine answers the next step of the first by one to c steps, which have the same
+-- events and lead to related states.
 pub record IsAnsweredBySome {S T E : Type 0} (t : Machine S E) (u : Machine T E) (c : ℕ) (I : S → T → Type 0) (r : S) (q : T) : Type 0 where
   pub further : ℕ
   pub bound : suc further ≤ c

@@ -33,7 +33,7 @@ pub older_present : (s : Slot) → has_older s ≡ true → is_present s ≡ tru
 older_present s e = changed_present s (older_changed s e)
 
 module _ (t : Table) (sound : IsSound t) where
-  -- there is a spare block for one that was never written
+  -- The pool has a spare block for a block that was never written.
   pub spare_below : t.written < t.most → 0 < t.pool.spare
   spare_below h =
       let f = count_within has_older is_present older_present t.slots.items in
@@ -45,7 +45,7 @@ module _ (t : Table) (sound : IsSound t) where
       let g = sound.few in let j = sound.written in omega arith
 
   module _ (k b : ℕ) (inside : k < length t.slots.items) (kept : slot_at t.slots.items k ≡ Kept b) where
-    -- and for a copy of one that was written and has none
+    -- The pool has a spare block for the copy of a block that was written before the mark.
     pub spare_kept : 0 < t.pool.spare
     spare_kept =
         let f : count_by has_older t.slots.items < count_by is_present t.slots.items = count_fewer has_older is_present older_present t.slots.items k Absent inside (ap has_older kept) (ap is_present kept) in
@@ -95,11 +95,11 @@ zero_offset n offset =
       | inr h ↦ get_or_past (replicate n 0) offset 0 (omega (arith, length-replicate {A = ℕ} n 0))
     ]
 
--- what a block of zero bytes has is what a slot without one has
+-- The bytes of a block of zeros are those of a slot without a block.
 zero_bytes : (pool after : Blocks) (b offset : ℕ) → held after b ≡ Some zeros → byte_in after (Some b) offset ≡ byte_in pool None offset
 zero_bytes pool after b offset e = rw e (zero_offset 4096 offset)
 
--- the pool gave out a block with these bytes
+-- A block with these bytes is taken from the pool.
 pub record Takes (pool after : Blocks) (b : ℕ) (bytes : Option (List ℕ)) : Type 0 where
   pub fresh : held pool b ≡ None
   pub changes : Changes pool after b bytes
@@ -107,7 +107,7 @@ pub record Takes (pool after : Blocks) (b : ℕ) (bytes : Option (List ℕ)) : T
   pub spare : after.spare + 1 ≡ pool.spare
   pub numbers : after.numbers ≡ pool.numbers
 
--- what else is so of the table after a block was claimed
+-- A block is claimed for the slot `k`, and the other slots and counts of the table are unchanged.
 pub record Claimed (t u : Table) (k : ℕ) (s : Slot) : Type 0 where
   pub inside : k < length t.slots.items
   pub slots : u.slots.items ≡ slice_set t.slots.items k s
@@ -146,7 +146,7 @@ module _ (t u : Table) (k b : ℕ) (sound : IsSound t) (takes : Takes t.pool u.p
       refl
       (mark_after t u k (New b) sound.owns m c.marked (λ on. rw absent ((λ offset h. refl), refl)))
 
-  -- first written since the mark
+  -- The case of a block that is first written after the mark.
   pub new_done : Claimed t u k (New b) → u.changed.items ≡ t.changed.items ++ k ∷ [] → t.marked ≡ true → IsSound u × Claims t u k
   new_done c listed on =
       let m : Moves t u k (New b) = new_moves c listed on in
@@ -178,7 +178,7 @@ module _ (t u : Table) (k b : ℕ) (sound : IsSound t) (takes : Takes t.pool u.p
       refl
       (mark_after t u k (Kept b) sound.owns m c.marked (λ on. absurd (true≢false (sym on ∙ off))))
 
-  -- first written, where no mark is set
+  -- The case of a block that is first written while no mark is set.
   pub kept_done : Claimed t u k (Kept b) → u.changed.items ≡ t.changed.items → t.marked ≡ false → IsSound u × Claims t u k
   kept_done c same off =
       let m : Moves t u k (Kept b) = kept_moves c same off in
@@ -216,7 +216,8 @@ module _ (t u : Table) (k b old : ℕ) (sound : IsSound t) (takes : Takes t.pool
       unmarked = λ off. absurd (true≢false (sym on ∙ (sym c.marked ∙ off)));
     }
 
-    -- written before the mark, and first since
+    -- The case of a block that was written before the mark, and is written for the first time after
+    -- it.
     pub aside_done : IsSound u × Claims t u k
     aside_done =
         let live : (v : List ℕ) × (held t.pool old ≡ Some v) = is_some_there (held t.pool old) old_live in
@@ -228,7 +229,7 @@ module _ (t u : Table) (k b old : ℕ) (sound : IsSound t) (takes : Takes t.pool
               (mark_after t u k (Changed b old) sound.owns m c.marked (λ _. rw kept ((λ offset h. ap (λ o. slice_index (unwrap_or o []) offset) (takes.changes.others old old_other)), refl))),
         )
 
--- a block that counts as written goes on to
+-- A block that already counts as written is claimed as it is.
 pub claimed_already : (t : Table) (k : ℕ) (s : Slot) → slot_at t.slots.items k ≡ s → is_present s ≡ true → Claims t t k
 claimed_already t k s at here = record {
   bytes = refl;
@@ -239,6 +240,6 @@ claimed_already t k s at here = record {
   blocks = refl;
 }
 
--- what a look-up in the table gave
+-- The slot that is read from the table is the slot at this position.
 pub read_slot : (xs : List Slot) (n : ℕ) (r s : Slot) → n < length xs → r ≡ slice_index_or xs n r → r ≡ s → slot_at xs n ≡ s
 read_slot xs n r s h e f = get_or_default xs n Absent r h ∙ (sym e ∙ f)

@@ -1,4 +1,4 @@
--- What is read while a memory is copied within itself.
+-- The bytes that are read while a memory is copied within itself.
 use Rattle.std.proofs.Common.{◌≡◌, ℕ, ◌+◌, ◌-◌, ◌<◌, ◌≤◌, List, ◌++◌, length, slice_index, sym, ap, subst, ◌∙◌, arith}
 use Rattle.block_pool.specs.Blocks.{with_part}
 use Rattle.block_pool.specs.Pages.{Pages, WritesBytes, part, size}
@@ -21,7 +21,7 @@ module _ (p q : Pages) (to : ℕ) (ys : List ℕ) (w : WritesBytes p q to ys) (f
   same_at : (i : ℕ) → slice_index q.now.bytes i ≡ slice_index (with_part p.now.bytes to ys) i
   same_at i = ap (λ c. slice_index c.bytes i) w.now
 
-  -- behind what was written, and before it, all is as it was
+  -- The bytes after those that were written, and the bytes before them, are unchanged.
   pub behind : to + length ys ≤ a → part q.now.bytes a n ≡ part p.now.bytes a n
   behind h = part_same q.now.bytes p.now.bytes a n after_size inside (λ i f g. same_at i ∙ part_above p.now.bytes to ys fits i (omega arith))
 
@@ -46,7 +46,7 @@ module _ (start t u : Table) (to from done n : ℕ) (sound : IsSound u) (fixed :
       puts_on start t u to (to + done) (part b from done) (part b (from + done) n) p (ap (λ k. to + k) (sym first)) (omega arith) sound fixed
       (subst (λ (xs : List ℕ). WritesBytes (pages_of t) (pages_of u) (to + done) xs) read w))
 
--- the same from the end: so many bytes are left
+-- A copy from the last byte to the first, with `left` bytes left.
 module _ (start t u : Table) (to from count left n : ℕ) (sound : IsSound u) (fixed : IsFixed t u) where
   pub backward_on : Puts start t (to + left) (part (bytes_of start) (from + left) (count - left)) → from < to → to + count ≤ start.size → left ≤ count → n ≤ left → WritesBytes (pages_of t) (pages_of u) (to + left - n) (part (bytes_of t) (from + left - n) n) →
       Puts start u (to + (left - n)) (part (bytes_of start) (from + (left - n)) (count - (left - n)))

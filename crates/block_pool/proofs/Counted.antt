@@ -15,7 +15,7 @@ reached_same : (at n m j : ℕ) → ((k : ℕ) → reaches at n k ≡ reaches at
 reached_same at n m j same [] = refl
 reached_same at n m j same (w ∷ ws) = ap₂ (λ b bs. b ∷ bs) (ap (λ r. w || r) (same j)) (reached_same at n m (suc j) same ws)
 
--- the blocks before this one that a range from the place on reaches
+-- The written blocks, with those that a range from `at` on reaches before block `k`.
 abbrev pub upto : Table → (at k : ℕ) → List Bool
 upto t at k = with_reached at (4096 * k - at) 0 (map is_present t.slots.items)
 
@@ -80,11 +80,11 @@ flag_added false = refl
 pub counted_by : (t : Table) (at k : ℕ) → k < length t.slots.items → at / 4096 ≤ k → count (upto t at (k + 1)) ≡ count (upto t at k) + (if is_present (slot_at t.slots.items k) then 0 else 1)
 counted_by t at k inside from = omega (arith, counted_one t at k inside from, flag_added (is_present (slot_at t.slots.items k)))
 
--- before the first block none is reached
+-- A range reaches no blocks before its first.
 pub counted_none : (t : Table) (at : ℕ) → upto t at (at / 4096) ≡ map is_present t.slots.items
 counted_none t at = ap (λ m. with_reached at m 0 (map is_present t.slots.items)) (let e : 4096 * (at / 4096) - at ≡ 0 = omega arith in e) ∙ reached_none at 0 (map is_present t.slots.items)
 
--- and past the last one all that the range reaches
+-- All blocks that a range reaches are counted after its last block.
 pub counted_all : (t : Table) (at n : ℕ) → 0 < n → upto t at ((at + n - 1) / 4096 + 1) ≡ with_reached at n 0 (map is_present t.slots.items)
 counted_all t at n some =
     reached_same at (4096 * ((at + n - 1) / 4096 + 1) - at) n 0 (λ k.

@@ -23,7 +23,7 @@ reaches_is at n b h =
 pub reaches_from : (at n b : ℕ) → Reaches at n b → reaches at n b ≡ true
 reaches_from at n b r = reaches_yes at n b r.some r.before r.behind
 
--- a range reaches what its two parts reach
+-- A range reaches the blocks that its two parts reach.
 reaches_both : (at n m b : ℕ) → (reaches at n b || reaches (at + n) m b) ≡ reaches at (n + m) b
 reaches_both at n m b =
     same_tests (reaches at n b || reaches (at + n) m b) (reaches at (n + m) b)

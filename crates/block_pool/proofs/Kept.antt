@@ -1,4 +1,4 @@
--- The blocks that a pool keeps, where one is taken, given back or written.
+-- The blocks that a pool keeps when one is taken, given back or written.
 use Rattle.base_lists.proofs.Common.{◌≡◌, ◌≢◌, ℕ, zero, suc, ◌+◌, ◌-◌, ◌<◌, List, [], ◌∷◌, ◌++◌, length, Bool, true, false, Option, Some, None, is_some, cond, count_by, slice_index, slice_index_or, slice_set, refl, sym, ap, ◌∙◌, inl, inr, arith, cases_lt, cases_eq, get_or_past, get_or-set_same}
 use Rattle.base_lists.proofs.Common.{get_or-set_other, get_or_append_left, none-some, is_some_there}
 use Rattle.std.proofs.Common.{length-set, length-append}
@@ -29,7 +29,7 @@ changes_pushed s n v old new e f i = record {
   others = λ o h. ap (λ t. slice_index_or t o None) f ∙ (beside s n o v i h ∙ sym (ap (λ t. slice_index_or t o None) e));
 }
 
--- what a contract sees, of so many blocks of which so many are free
+-- A pool as contracts see it, with `many` blocks of which `free` are not live.
 abbrev pub seen : (room free : ℕ) → List (Option (List ℕ)) → ℕ → Blocks
 seen room free slots many = record { slots = slots; spare = room - (many - free); numbers = room }
 
@@ -78,7 +78,7 @@ live_pushed [] (c ∷ bs) l b h = absurd (omega arith)
 live_pushed (m ∷ ls) [] l b h = absurd (omega arith)
 live_pushed (m ∷ ls) (c ∷ bs) l b h = ap (λ r. bytes_if m c ∷ r) (live_pushed ls bs l b (omega arith))
 
--- within a list the default is not read
+-- An entry at an existing position does not depend on the default.
 pub any_default : {A : Type 0} (xs : List A) (n : ℕ) (d e : A) → n < length xs → slice_index_or xs n d ≡ slice_index_or xs n e
 any_default [] n d e h = absurd (omega arith)
 any_default (x ∷ xs) zero d e h = refl
@@ -89,7 +89,7 @@ flag_of true b v e = grind arith
 flag_of false b v e = absurd (none-some v e)
 
 module _ (ls : List Bool) (bs : List (List ℕ)) (free : List ℕ) (is : FreeBlocksAreListed ls bs free) where
-  -- a live block has its flag, and its bytes
+  -- A live block has its flag and its bytes.
   pub flagged : (n : ℕ) (v : List ℕ) → slice_index_or (live_blocks ls bs) n None ≡ Some v → (slice_index_or ls n false ≡ true) × (slice_index_or bs n [] ≡ v)
   flagged n v e = flag_of (slice_index_or ls n false) (slice_index_or bs n []) v (sym (live_at ls bs n is.many) ∙ e)
 
@@ -102,7 +102,7 @@ module _ (ls : List Bool) (bs : List (List ℕ)) (free : List ℕ) (is : FreeBlo
   dead_at : (n : ℕ) → slice_index_or ls n false ≡ false → slice_index_or (live_blocks ls bs) n None ≡ None
   dead_at n e = live_at ls bs n is.many ∙ ap (λ f. bytes_if f (slice_index_or bs n [])) e
 
-  -- the number that was given back last
+  -- The number that was given back last is the next to be taken.
   module _ (rest : List ℕ) (n : ℕ) (last : free ≡ rest ++ n ∷ []) where
     more : length free ≡ length rest + 1
     more = rw last (length-append rest (n ∷ []))
@@ -146,7 +146,7 @@ module _ (ls : List Bool) (bs : List (List ℕ)) (free : List ℕ) (is : FreeBlo
     pub used_taken : (b : List ℕ) → count_by is_some (live_blocks (slice_set ls n true) (slice_set bs n b)) ≡ count_by is_some (live_blocks ls bs) + 1
     used_taken b = let k : length (slice_set bs n b) ≡ length bs = length-set bs n b in omega (arith, (kept_taken b).account, is.account, more)
 
-  -- a block after all others, where none is free
+  -- A new block is put after all others if no number is free.
   pub kept_pushed : (b : List ℕ) (rest : List ℕ) → length free ≡ 0 → length rest ≡ 0 → FreeBlocksAreListed (ls ++ true ∷ []) (bs ++ b ∷ []) rest
   kept_pushed b rest none no_rest =
       let l : length (ls ++ true ∷ []) ≡ length ls + 1 = length-append ls (true ∷ []) in
@@ -166,7 +166,7 @@ module _ (ls : List Bool) (bs : List (List ℕ)) (free : List ℕ) (is : FreeBlo
   pub fresh_past : (n : ℕ) → n ≡ length bs → slice_index_or (live_blocks ls bs) n None ≡ None
   fresh_past n e = get_or_past (live_blocks ls bs) n None (rw (live_length ls bs is.many) (omega arith))
 
-  -- a live block is given back
+  -- A live block is given back, or gets other bytes.
   module _ (n : ℕ) (some : is_some (slice_index_or (live_blocks ls bs) n None) ≡ true) where
     abbrev v : List ℕ
     v = (is_some_there (slice_index_or (live_blocks ls bs) n None) some).0
@@ -243,7 +243,6 @@ module _ (ls : List Bool) (bs : List (List ℕ)) (free : List ℕ) (is : FreeBlo
     pub written_as : (b : List ℕ) → live_blocks ls (slice_set bs n b) ≡ slice_set (live_blocks ls bs) n (Some b)
     written_as b = live_written ls bs n b is.many was_true
 
-    -- or written
     pub kept_written : (b : List ℕ) → FreeBlocksAreListed ls (slice_set bs n b) free
     kept_written b =
         let k : length (slice_set bs n b) ≡ length bs = length-set bs n b in

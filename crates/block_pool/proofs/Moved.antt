@@ -1,4 +1,5 @@
--- A step of the table: one slot is replaced, and the counts and the list follow. What is so of every table is kept.
+-- A step of the table: one slot is replaced, and the counts and the list of changed blocks with it.
+-- The step keeps the invariant of a table.
 use Rattle.base_lists.proofs.Common.{◌≡◌, ◌≢◌, ◌⊎◌, ℕ, ◌+◌, ◌<◌, ◌≤◌, [], length, Bool, true, false, slice_set, inl, inr, arith, Contains, vec_capacity, count_by, cases_eq}
 use Rattle.std.proofs.Common.{length-set}
 use Rattle.block_pool.specs.Blocks.{used}

@@ -1,4 +1,4 @@
--- What the memory tells of its table.
+-- The properties of a table that follow from the memory that it represents.
 use Rattle.base_lists.proofs.Common.{◌≡◌, ℕ, zero, suc, ◌+◌, ◌*◌, ◌/◌, ◌^◌, ◌<◌, ◌≤◌, [], ◌∷◌, length, map, Bool, true, false, Some, None, replicate, count_by, refl, sym, ap, subst, ◌∙◌, inl, inr, arith, IsNone, IsSome, vec_capacity, if◌then◌else◌, Contains, cases_lt, ext_get_or, get_or-replicate}
 use Rattle.base_lists.proofs.Common.{get_or_past, length-replicate, length-map, map_numbers_index, length-numbers}
 use Rattle.base_lists.specs.Places.{numbers}
@@ -95,6 +95,6 @@ module _ (t : Table) (slots : t.slots.items ≡ replicate (blocks_of t.size) Abs
       let blocks : used t.pool + t.pool.spare ≡ t.pool.spare = omega (arith, unused) in
       rw off (λ i. record { now = now i; mark = None; most = t.most; blocks = blocks i; held = unused i })
 
--- what lies in the memory lies in the table
+-- A position in the memory is a position in the table.
 pub inside_table : (t : Table) (p : Pages) (n : ℕ) → pages_of t ≡ p → n ≤ size p → n ≤ t.size
 inside_table t p n e h = let f : n ≤ size (pages_of t) = subst (λ (q : Pages). n ≤ size q) (sym e) h in rw size_is at f

@@ -1,4 +1,4 @@
--- Bytes that are written over a part of others, place by place.
+-- Bytes that are written over a part of others, position by position.
 use Rattle.base_lists.proofs.Common.{◌≡◌, ℕ, ◌+◌, ◌-◌, ◌<◌, ◌≤◌, List, ◌++◌, length, take, drop, slice_index, refl, sym, ap, ◌∙◌, inl, inr, arith, get_or_append_left, get_or-take, get_or-drop, get_or-append_right, ext_get_or, cases_lt}
 use Rattle.std.proofs.Common.{length-append, length-drop, length-take-le}
 use Rattle.block_pool.specs.Blocks.{with_part}
@@ -26,7 +26,7 @@ module _ (xs : List ℕ) (at : ℕ) (ys : List ℕ) (fits : at + length ys ≤ l
       ∙ (get_or-drop (at + length ys) xs (i - at - length ys) 0
       ∙ ap (slice_index xs) (let e : at + length ys + (i - at - length ys) ≡ i = omega arith in e)))
 
-  -- what agrees with it at each place is it
+  -- Bytes that are the expected ones at each position are the bytes after the write.
   pub is_part : (zs : List ℕ) → length zs ≡ length xs → ((i : ℕ) → i < at → slice_index zs i ≡ slice_index xs i) → ((i : ℕ) → at ≤ i → i < at + length ys → slice_index zs i ≡ slice_index ys (i - at)) → ((i : ℕ) → at + length ys ≤ i → i < length xs → slice_index zs i ≡ slice_index xs i) →
       zs ≡ with_part xs at ys
   is_part zs same below inside above =

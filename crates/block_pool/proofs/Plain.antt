@@ -1,4 +1,4 @@
--- No block is left that was written since the mark.
+-- The table when no block is left that was written since the mark.
 use Rattle.base_lists.proofs.Common.{◌≡◌, ℕ, suc, ◌/◌, ◌%◌, List, [], ◌∷◌, length, map, Bool, true, false, Some, None, is_some, count_by, refl, sym, ap, ap₂, ◌∙◌, inl, inr, arith, Contains, if◌then◌else◌, fun_ext, cases_Bool}
 use Rattle.base_lists.specs.Places.{numbers}
 use Rattle.block_pool.specs.Blocks.{used}
@@ -32,7 +32,7 @@ counted_map : {A : Type 0} (p : A → Bool) (xs : List A) → count_by (λ w. w)
 counted_map p [] = refl
 counted_map p (x ∷ xs) = omega (arith, count_step p x xs, count_step (λ w. w) (p x) (map p xs), counted_map p xs)
 
--- the number of blocks that were written is the one that the table keeps
+-- The table keeps the number of blocks that were written.
 pub written_is : (t : Table) → IsSound t → written_count (pages_of t).now ≡ t.written
 written_is t sound = counted_map is_present t.slots.items ∙ sym sound.written
 
@@ -57,7 +57,7 @@ module _ (t : Table) (sound : IsSound t) (none : t.changed.items ≡ []) where
       let h = sound.account in
       let i = written_is t sound in omega arith
 
--- how far the way back has come
+-- The state of a rollback: the contents of the mark are unchanged, and some blocks are taken back.
 pub record Unwinds (start now : Table) : Type 0 where
   pub sound : IsSound now
   pub on : now.marked ≡ true
@@ -65,7 +65,7 @@ pub record Unwinds (start now : Table) : Type 0 where
   pub blocks : (pages_of now).blocks ≡ (pages_of start).blocks
   pub fixed : IsFixed start now
 
--- how far the older copies are given up
+-- The state of a commit: the present contents are unchanged, and some older copies are given back.
 pub record Winds (start t : Table) : Type 0 where
   pub sound : IsSound t
   pub on : t.marked ≡ true

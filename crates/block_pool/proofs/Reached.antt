@@ -23,7 +23,7 @@ reached_at at n j [] i h = absurd (omega arith)
 reached_at at n j (w ∷ ws) zero h = ap (λ b. w || reaches at n b) (let e : j ≡ j + 0 = omega arith in e)
 reached_at at n j (w ∷ ws) (suc i) h = reached_at at n (suc j) ws i (omega arith) ∙ ap (λ b. slice_index_or ws i false || reaches at n b) (let e : suc j + i ≡ j + suc i = omega arith in e)
 
--- a range within one block reaches that block alone
+-- A range within one block reaches only this block.
 pub reached_one : (k offset n : ℕ) (ws : List Bool) → k < length ws → 0 < n → offset + n ≤ 4096 → slice_set ws k true ≡ with_reached (4096 * k + offset) n 0 ws
 reached_one k offset n ws inside some fits =
     ext_get_or false (slice_set ws k true) (with_reached (4096 * k + offset) n 0 ws) (length-set ws k true ∙ sym (reached_length (4096 * k + offset) n 0 ws)) (λ i h.

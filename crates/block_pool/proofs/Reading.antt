@@ -1,4 +1,4 @@
--- What is read of a block is what the memory has there.
+-- The bytes that are read from a block are those of the memory.
 use Rattle.base_lists.proofs.Common.{◌≡◌, ℕ, ◌+◌, ◌-◌, ◌*◌, ◌/◌, ◌%◌, ◌<◌, ◌≤◌, List, ◌++◌, length, drop, Some, None, slice_index, replicate, refl, sym, ap, ◌∙◌, inl, inr, arith, zero-add, cases_lt, get_or-take, get_or-drop, get_or_append_left, get_or-append_right, ext_get_or, get_or-replicate}
 use Rattle.base_lists.proofs.Common.{length-replicate, map_numbers_index}
 use Rattle.std.proofs.Common.{length-append, length-drop, length-take-le}
@@ -30,11 +30,11 @@ part_at xs at n i h = get_or-take n (drop at xs) i 0 h ∙ get_or-drop at xs i 0
 pub part_size : (xs : List ℕ) (at n : ℕ) → at + n ≤ length xs → length (part xs at n) ≡ n
 part_size xs at n h = length-take-le n (drop at xs) (simp length-drop (omega arith))
 
--- bytes that agree with a part at each place are that part
+-- Bytes that agree with a part at each position are that part.
 pub part_is : (ys xs : List ℕ) (at n : ℕ) → at + n ≤ length xs → length ys ≡ n → ((i : ℕ) → i < n → slice_index ys i ≡ slice_index xs (at + i)) → ys ≡ part xs at n
 part_is ys xs at n fits many same = ext_get_or 0 ys (part xs at n) (many ∙ sym (part_size xs at n fits)) (λ i h. let small : i < n = rw many at h in same i small ∙ sym (part_at xs at n i small))
 
--- a part in two pieces
+-- A part of a list is made of two adjacent parts.
 pub part_joined : (xs : List ℕ) (at n m : ℕ) → at + n + m ≤ length xs → part xs at n ++ part xs (at + n) m ≡ part xs at (n + m)
 part_joined xs at n m fits =
     let first : length (part xs at n) ≡ n = part_size xs at n (omega arith) in
@@ -49,7 +49,7 @@ module _ (t : Table) (k offset n : ℕ) (within : offset + n ≤ 4096) (inside :
   inside_bytes : 4096 * k + offset + n ≤ length (pages_of t).now.bytes
   inside_bytes = rw (size_is t) inside
 
-  -- a part of a block is that part of the memory
+  -- A part of a block is the corresponding part of the memory.
   pub block_part : (bytes : List ℕ) → IsBlock t k bytes → part bytes offset n ≡ part (pages_of t).now.bytes (4096 * k + offset) n
   block_part bytes is =
       part_is (part bytes offset n) (pages_of t).now.bytes (4096 * k + offset) n inside_bytes (part_size bytes offset n (rw is.whole within)) (λ i h.

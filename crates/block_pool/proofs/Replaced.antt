@@ -75,7 +75,7 @@ module _ (pool after : Blocks) (slots : List Slot) (k : ℕ) (s : Slot) (owns : 
   pub owns_after : Owns after (slice_set slots k s)
   owns_after = record { live = live_after; once = once_after; apart = apart_after }
 
-  -- the blocks of the other slots have the bytes that they had
+  -- The blocks of the other slots keep their bytes.
   pub other_bytes : (which : Slot → Option ℕ) → ((x : Slot) (b : ℕ) → which x ≡ Some b → NamesBlock x b) → (j offset : ℕ) → j ≢ k → byte_in after (which (slot_at (slice_set slots k s) j)) offset ≡ byte_in pool (which (slot_at slots j)) offset
   other_bytes which named j offset n =
       rw (there j n) (

@@ -1,4 +1,4 @@
--- Whether so many bytes can be written, and how far a write in several steps has come.
+-- Room for a number of bytes, and the state of a write in several steps.
 use Rattle.std.proofs.Common.{◌≡◌, ℕ, zero, suc, ◌+◌, ◌-◌, ◌*◌, ◌/◌, ◌<◌, ◌≤◌, List, [], ◌∷◌, ◌++◌, length, map, Bool, true, false, ◌||◌, slice_index_or, count_by, refl, sym, ap, ap₂, ◌∙◌, arith, zero-add, take, drop, length-take-le, length-drop}
 use Rattle.std.proofs.lemmas.List.{length-map}
 use Rattle.block_pool.specs.Pages.{Pages, WritesBytes, HasRoomFor, reaches, with_reached}
@@ -38,7 +38,7 @@ again true a b h = refl
 again false true b h = sym (h refl)
 again false false b h = refl
 
--- what a part of the range reaches, the range reaches
+-- A range reaches the blocks that a part of it reaches.
 pub reached_again : (at n a m j : ℕ) → ((k : ℕ) → reaches a m k ≡ true → reaches at n k ≡ true) → (ws : List Bool) → with_reached at n j (with_reached a m j ws) ≡ with_reached at n j ws
 reached_again at n a m j h [] = refl
 reached_again at n a m j h (w ∷ ws) = ap₂ (λ b bs. b ∷ bs) (again w (reaches a m j) (reaches at n j) (h j)) (reached_again at n a m (suc j) h ws)
@@ -68,7 +68,7 @@ room_for t at n k sound fits inside absent r =
     let h : count (with_reached at n 0 (map is_present t.slots.items)) ≤ t.most = fits in
     omega arith
 
--- a write in steps: these bytes are there
+-- The state of a write in several steps: these bytes are written.
 pub record Puts (start t : Table) (at : ℕ) (bytes : List ℕ) : Type 0 where
   pub sound : IsSound t
   pub writes : WritesBytes (pages_of start) (pages_of t) at bytes
@@ -84,21 +84,21 @@ puts_on start t u at place ys zs p e inside sound fixed w = record {
   fixed = fixed_on start t u p.fixed fixed;
 }
 
--- and there is room for more of them
+-- A write in several steps has room for its next bytes.
 pub puts_room : (start t : Table) (at n place m : ℕ) (a : ℕ) (ys : List ℕ) → IsSound t → WritesBytes (pages_of start) (pages_of t) a ys → HasRoomFor (pages_of start) at n → at ≤ a → a + length ys ≤ at + n → at ≤ place → place + m ≤ at + n → 0 < m → at + n ≤ t.size →
     slot_at t.slots.items (place / 4096) ≡ Absent → t.written < t.most
 puts_room start t at n place m a ys sound w fits f g h i some small absent =
     room_for t at n (place / 4096) sound (fits_still (pages_of start) (pages_of t) at n a ys w f g fits) (rw sound.slots (omega arith)) absent
     (reaches_yes at n (place / 4096) (omega arith) (omega arith) (omega arith))
 
--- the next bytes of a list that is written piece by piece
+-- The next bytes of a list that is written in pieces.
 pub next_piece : (xs : List ℕ) (d n : ℕ) → take (d + n - d) (drop d xs) ≡ take n (drop d xs)
 next_piece xs d n = ap (λ m. take m (drop d xs)) (let e : d + n - d ≡ n = omega arith in e)
 
 pub piece_size : (xs : List ℕ) (d n : ℕ) → d + n ≤ length xs → length (take n (drop d xs)) ≡ n
 piece_size xs d n h = length-take-le n (drop d xs) (simp length-drop (omega arith))
 
--- what was written had room
+-- The bytes that were written had room.
 pub written_fits : (t u : Table) (at : ℕ) (bytes : List ℕ) → IsSound u → WritesBytes (pages_of t) (pages_of u) at bytes → HasRoomFor (pages_of t) at (length bytes)
 written_fits t u at bytes sound w =
     let many : count (with_reached at (length bytes) 0 (map is_present t.slots.items)) ≡ u.written = ap (λ c. count c.written) (sym w.now) ∙ written_is u sound in

@@ -1,4 +1,4 @@
--- The number that bytes spell, in the words of the standard library.
+-- The number that bytes encode in little-endian order, as the standard library computes it.
 use Rattle.base_lists.proofs.Common.{◌≡◌, ℕ, zero, suc, replicate, take, drop, ◌+◌, ◌-◌, List, [], ◌∷◌, length, slice_index, refl, sym, ap, ◌∙◌, inl, inr, arith, cases_lt, get_or-take, get_or-drop}
 use Rattle.std.specs.Int.{from_le_bytes, w64}
 use Rattle.block_pool.specs.Pages.{little, IsZeroTo}
@@ -19,7 +19,7 @@ little_none [] i e = refl
 little_none (x ∷ xs) zero e = omega arith
 little_none (x ∷ xs) (suc i) e = little_none xs i (omega arith)
 
--- a word that spells zero has zero bytes alone
+-- A word that encodes zero has only zero bytes.
 pub zero_word : (xs : List ℕ) (at n : ℕ) → little (take (at + n - at) (drop at xs)) ≡ 0 → IsZeroTo xs at (at + n)
 zero_word xs at n e k f g =
     sym (get_or-take (at + n - at) (drop at xs) (k - at) 0 (omega arith) ∙ (get_or-drop at xs (k - at) 0 ∙ ap (slice_index xs) (let h : at + (k - at) ≡ k = omega arith in h)))

@@ -31,7 +31,8 @@ same_replaces pool slots k s owns inside still apart = record {
   apart = apart;
 }
 
--- what else is so of the table after the last block of the list was left as not changed
+-- The last block is removed from the list of changed blocks, and its slot `k` becomes `s`; the rest
+-- of the table is unchanged.
 pub record Undoes (t u : Table) (k : ℕ) (s : Slot) : Type 0 where
   pub inside : k < length t.slots.items
   pub slots : u.slots.items ≡ slice_set t.slots.items k s
@@ -50,7 +51,7 @@ flag_most : (b : Bool) → flag b ≤ 1
 flag_most true = omega arith
 flag_most false = omega arith
 
--- a block was given back
+-- A block is given back to the pool.
 pub record Gives (pool after : Blocks) (b : ℕ) : Type 0 where
   pub gone : Changes pool after b None
   pub used : used after + 1 ≡ used pool
@@ -94,7 +95,7 @@ module _ (t u : Table) (k : ℕ) (s : Slot) (sound : IsSound t) (r : Replaces t.
   )
 
 module _ (t u : Table) (k : ℕ) (sound : IsSound t) where
-  -- a block that was never written before the mark
+  -- The case of a block that was not written before the mark.
   pub new_back : (p : ℕ) → slot_at t.slots.items k ≡ New p → Undoes t u k Absent → Gives t.pool u.pool p → u.written + 1 ≡ t.written → IsSound u × TakesBack t u
   new_back p at d g written =
       let r : Replaces t.pool u.pool t.slots.items k Absent = given_replaces t.pool u.pool t.slots.items k Absent p sound.owns d.inside (rw at (inl refl)) g.gone (λ c n. elim n [ inl e ↦ cc | inr e ↦ cc ]) (λ c e f. cc) in
@@ -113,7 +114,7 @@ module _ (t u : Table) (k : ℕ) (sound : IsSound t) where
     apart : o ≢ p
     apart e = sound.owns.apart k p (rw at refl) (rw at (ap Some e))
 
-    -- one that was written before and after
+    -- The case of a block that was written before the mark and after it.
     pub changed_back : Undoes t u k (Kept o) → Gives t.pool u.pool p → u.written ≡ t.written → IsSound u × TakesBack t u
     changed_back d g written =
         let r : Replaces t.pool u.pool t.slots.items k (Kept o) = given_replaces t.pool u.pool t.slots.items k (Kept o) p sound.owns d.inside (rw at (inl refl)) g.gone (λ c n. elim n [ inl e ↦ (rw at (inr e), λ f. apart (cc)) | inr e ↦ cc ]) (λ c e f. cc) in
@@ -128,7 +129,7 @@ module _ (t u : Table) (k : ℕ) (sound : IsSound t) where
         (undone_moves t u k (Kept p) sound r d g.numbers (rw at (omega (arith, written))) (rw at (omega (arith, g.used))) (omega (arith, g.used, g.spare)) (omega (arith, written)))
         (λ offset h. rw at (ap (λ x. slice_index (unwrap_or x []) offset) (g.gone.others p (λ e. apart (sym e))))) (rw at refl)
 
-  -- one that is not changed stays
+  -- The case of a block that is not changed.
   module _ (s : Slot) (at : slot_at t.slots.items k ≡ s) (d : Undoes t u k s) (same : u.pool ≡ t.pool) (written : u.written ≡ t.written) where
     left_replaces : Replaces t.pool u.pool t.slots.items k s
     left_replaces = rw same (same_replaces t.pool t.slots.items k s sound.owns d.inside (λ c n. rw at n) (λ c e f. sound.owns.apart k c (rw at e) (rw at f)))
@@ -142,7 +143,7 @@ module _ (t u : Table) (k : ℕ) (sound : IsSound t) where
     pub left_settled : IsSound u × Settles t u
     left_settled = settle_done t u k s sound left_replaces d left_moves (λ offset h. rw (at, same) refl) (rw at refl)
 
--- a block that the table has counts as written
+-- A table with a present block has at least one written block.
 pub written_some : (t : Table) (k : ℕ) → IsSound t → k < length t.slots.items → is_present (slot_at t.slots.items k) ≡ true → 1 ≤ t.written
 written_some t k sound inside there =
     let f : count_by (λ s. false) t.slots.items < count_by is_present t.slots.items = count_fewer (λ s. false) is_present (λ s e. absurd (true≢false (sym e))) t.slots.items k Absent inside refl there in

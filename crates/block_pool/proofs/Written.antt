@@ -21,11 +21,11 @@ older_not_before (Kept c) b e f g = cc
 older_not_before (New c) b e f g = cc
 older_not_before (Changed c d) b e f g = f g
 
--- the memory has as many bytes as the table says
+-- The size of the memory is that in the table.
 pub size_is : (t : Table) → size (pages_of t) ≡ t.size
 size_is t = length-map (numbers 0 t.size) (byte_at t.pool t.slots.items present) ∙ length-numbers 0 t.size
 
--- the table with other bytes in a part of a block of the pool
+-- The table with other bytes in a part of a block of the pool.
 abbrev pub with_block : Table → (b : ℕ) → (old : List ℕ) → (offset : ℕ) → List ℕ → Table
 with_block t b old offset new = record t { pool = with_bytes t.pool b (with_part old offset new) }
 
@@ -139,7 +139,7 @@ module _ (t : Table) (k b offset : ℕ) (new old : List ℕ) (sound : IsSound t)
       let small : i < t.size = rw (many f) at inside in
       at_place g i small ∙ (outside i (λ e. part_above old offset new fits_old (i % 4096) (omega arith)) ∙ sym (at_place f i small)))
 
--- a block is made one that may be written to, and then written
+-- A block is claimed and then written.
 pub block_written : (t u : Table) (pool : Blocks) (k b offset : ℕ) (new : List ℕ) → IsSound u → Claims t u k → IsFixed t u → k < length u.slots.items → present (slot_at u.slots.items k) ≡ Some b → (u.marked ≡ true → is_changed (slot_at u.slots.items k) ≡ true) → WritesPart u.pool pool b offset new →
     0 < length new → offset + length new ≤ 4096 → 4096 * k + offset + length new ≤ u.size → IsSound (record u { pool = pool }) × WritesBytes (pages_of t) (pages_of (record u { pool = pool })) (4096 * k + offset) new
 block_written t u pool k b offset new sound claims fixed inside named private w some within small =

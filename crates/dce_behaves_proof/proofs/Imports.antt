@@ -1,4 +1,4 @@
--- The addresses of imports of which only some are kept.
+-- The addresses of the imports that are kept.
 use Rattle.base_lists.proofs.Common.{◌≡◌, ◌∙◌, ap, sym, subst, refl, ℕ, ◌+◌, ◌≤◌, List, [], ◌∷◌, length, Option, Some, None, is_some, Bool, true, false, cond, arith, option_and_then, cons_option, places_many, and_then_is}
 use Rattle.std.proofs.Common.{filter, filter_map}
 use Rattle.base_lists.proofs.Filtered.{at_places}
@@ -22,7 +22,7 @@ all_kept {A} {B} f (c ∷ cs) (x ∷ xs) ys h =
     by true y e zs k = rw (e, k) refl
     by false y e zs k = k
 
--- a filter chooses each element that passes
+-- The element itself if it passes the test, and none otherwise.
 abbrev chosen : {A : Type 0} → (A → Bool) → A → Option A
 chosen test x = cond (test x) (Some x) None
 
@@ -48,7 +48,8 @@ module _ (env : Environment) (types : List FuncType) (k : Space) where
   addresses_are : (is : List Import) → addresses env types is k ≡ all_there address (filter (has_kind k) is)
   addresses_are is = at_places (has_kind k) address is 0 (address_in env types is k) (λ n i e. ap (address_in env types is k) (let z : 0 + n ≡ n = omega arith in z) ∙ ap (λ o. option_and_then (address_of k) (external_value_in env types o)) e)
 
-  -- where imports are kept as the entries of the index space are that they add, so are their addresses
+  -- The addresses of the imports that are kept are the kept ones of all addresses, if an import is
+  -- kept exactly if the entry that it adds to the index space is.
   pub kept_addresses : (bs cs : List Bool) (is : List Import) (all : List ℕ) → addresses env types is k ≡ Some all → length bs ≡ length is → length (import_places k is) ≤ length cs → AreKeptAlike (has_kind k) bs cs is 0 →
       addresses env types (kept bs is) k ≡ Some (kept cs all)
   kept_addresses bs cs is all h many most alike =

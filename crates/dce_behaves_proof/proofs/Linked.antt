@@ -25,13 +25,13 @@ use Rattle.dce_sweep_spec.specs.Swept.{defined_funcs, defined_globals, kept_elem
 use Rattle.dce_sweep_spec.specs.Unswept.{unswept}
 use Rattle.dce_behaves_proof.proofs.Swept.{kept_indices, same, moved_elem, elems_mapped, R, own, names, consts, definitions, view}
 
--- a module alone is linked if its instance, its store and its view are there and its imports match
+-- A module alone is linked if its instance, its store and its view exist and its imports match.
 module _ (env : Environment) (t : Module) (is : List Inst) where
   pub made_there : (s : Store) (view : List (Text × ExternalValue)) → insts_from env (one t) 0 (one t) ≡ Some is → stores_from env (one t) is (own_store env) 0 (one t) is ≡ Some s → all_there (seen_as is) (alone t).view ≡ Some view →
       all_of (is_matched env (one t) s) (sites (one t)) ≡ true → links env (alone t) ≡ true
   made_there s view e f g h = rw (e, f, g, h)
 
--- what the laws of the crates below say
+-- The laws of other crates that these lemmas use.
 pub record Laws : Type 0 where
   pub spaces : SpacesAreImportsAndOwn
   pub constants : ConstantsAloneReadTheEnvironment
@@ -82,7 +82,7 @@ module _ (laws : Laws) (k : Marks) (t : Module) (c : AreClosed k t) (env : Envir
         let q = right_there (global_rel Q (values_in env v 0) (values_in env w 0) {g = d.0} {h = new_global r d.0} (record { type = refl; init = consts k t c env imports laws.constants i j a b d.0.init (named.globals y d.0 d.1) })) s.1 in
         (q.0, ap (world.new_global env (one u) (j ∷ []) 0) (sym d.2) ∙ q.1)
 
-    -- the references of the items that are kept
+    -- The items that are kept of an element segment have references.
     items_there : (x : ℕ) (e : ElemSeg) → slice_get t.elems x ≡ Some e → (rs : List RefVal) × (all_there (world.ref_value env (one u) (j ∷ []) 0) (map (new_const r) (kept_items k e.mode e.items)) ≡ Some rs)
     items_there x e h = let all = all_there_from (world.ref_value env (one u) (j ∷ []) 0) (map (new_const r) (kept_items k e.mode e.items)) each in (all.results, all.are)
       where

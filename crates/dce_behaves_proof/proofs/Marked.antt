@@ -1,4 +1,5 @@
--- How many are kept before a place, and which are marked: sums, order, and lists all of which are marked.
+-- The number of elements that are kept before a place: its sums, its order, and its value where all
+-- elements are marked.
 use Rattle.std.proofs.Common.{◌≡◌, ◌∙◌, ap, sym, refl, ℕ, zero, suc, ◌+◌, ◌<◌, ◌≤◌, List, [], ◌∷◌, length, drop, replicate, Bool, true, false, arith, true≢false}
 use Rattle.base_kept.specs.Kept.{kept, is_marked, kept_before}
 

@@ -1,4 +1,5 @@
--- Where addresses go when some of what a module defines is left out, and what index spaces name then.
+-- The new addresses when some of the definitions of a module are removed, and what the entries of
+-- index spaces name then.
 use Rattle.base_lists.proofs.Common.{◌≡◌, ◌∙◌, ap, sym, refl, ℕ, ◌+◌, ◌-◌, ◌<◌, ◌≤◌, ◌&&◌, ◌⊎◌, inl, inr, List, ◌++◌, length, drop, Bool, true, false, cond, nat_eq, nat_lt, arith, slice_get, cases_lt, eq-eqb, eqb-true, ltb-true, nat_tests, left_true, right_true, numbers_at, append_at_left}
 use Rattle.base_lists.proofs.Common.{append_left, append_right, slice_get_there, get_rel, opt_at, opt_self}
 use Rattle.base_lists.specs.Places.{numbers}
@@ -9,7 +10,8 @@ use Rattle.dce_behaves_proof.proofs.Marked.{kept_length, before_sum, before_less
 
 -- ---- addresses ----
 
--- an address of the environment's own stays; of those that are defined behind, one that is marked goes to its place among what is kept
+-- An address of the environment's own stays. The address of a marked definition, behind those,
+-- becomes the address of its place among the definitions that are kept.
 abbrev pub goes_to : (own : ℕ) → List Bool → (a b : ℕ) → Bool
 goes_to own bs a b = cond (nat_lt a own) (nat_eq a b) (is_marked bs (a - own) && nat_eq b (own + kept_before bs (a - own)))
 
@@ -45,7 +47,8 @@ goes_left {own} {bs} (is_kept x p m e) (is_kept y q n f) = let same = marked_apa
 
 -- ---- index spaces ----
 
--- imports, and then numbers from one on: an index that is kept names, at its place among what is kept, what it named
+-- An index space is a list of imported addresses and then consecutive ones. An index that is kept
+-- names, at its place among those that are kept, the entity that it named.
 pub space_moves : (P : ℕ → ℕ → Type 0) (l m : List ℕ) (bs : List Bool) (from count fewer : ℕ) → ListRel P l l → m ≡ kept bs l → kept_before (drop (length l) bs) count ≤ fewer →
     ((z : ℕ) → z < count → is_marked (drop (length l) bs) z ≡ true → P (from + z) (from + kept_before (drop (length l) bs) z)) → (x : ℕ) → x < length l + count → is_marked bs x ≡ true →
     OptRel P (slice_get (l ++ numbers from count) x) (slice_get (m ++ numbers from fewer) (kept_before bs x))

@@ -1,4 +1,5 @@
--- What is kept names only indices that are kept and have an entry; and so the imports that are kept are those of the module.
+-- What is kept of a module names only indices that are kept and have an entry in the map of the
+-- sweep. Hence the sweep does not change the imports that are kept.
 use Rattle.base_lists.proofs.Common.{◌≡◌, ◌∙◌, ap, ap₂, refl, ℕ, suc, List, [], ◌∷◌, map, length, Some, ◌&&◌, slice_get, and_from, arith, ltb-true, length-numbers, numbers_index}
 use Rattle.base_lists.specs.Places.{numbers}
 use Rattle.wasm_tree_spec.specs.Prelude.{Instr, ConstExpr, DataMode, ElemMode, ExportDesc, Import, ImportDesc, Module, ListLayers, PassesLayerByLayer}

@@ -1,4 +1,4 @@
--- What is left of a module by closed marks shows what the module shows.
+-- What closed marks leave of a module has the same trace as the module.
 use Rattle.base_lists.proofs.Common.{◌≡◌, ◌∙◌, ap, sym, ℕ, List, [], ◌∷◌, Some, true, option_and_then, is_some_there, arith}
 use Rattle.wasm_tree_spec.specs.Prelude.{Functions, Tables, Memories, Globals, Module}
 use Rattle.wasm_meaning.specs.Prelude.{Inst, Environment, insts_from, inst_of, starts_of, instantiate, links, alone, Move, events}
@@ -18,7 +18,7 @@ module _ (laws : Laws) (k : Marks) (t : Module) (c : AreClosed k t) (imports : (
   u = swept k t
 
   module _ (env : Environment) where
-    -- of the instances of both
+    -- A property of the single instances of both modules holds of their lists of instances.
     for_instances : (P : List Inst → List Inst → Type 0) → ((i j : Inst) → IsInst env (one t) 0 t i → IsInst env (one u) 0 u j → P (i ∷ []) (j ∷ [])) → (is js : List Inst) → insts_from env (one t) 0 (one t) ≡ Some is → insts_from env (one u) 0 (one u) ≡ Some js → P is js
     for_instances P h is js f g =
         let i : (i : Inst) × (is ≡ i ∷ []) × IsInst env (one t) 0 t i = search (arith, f) in

@@ -1,4 +1,5 @@
--- A module and what is left of it by closed marks: its records of the law for two worlds.
+-- The correspondence between the world of a module and that of what closed marks leave of it: what
+-- the law on two worlds asks for.
 use Rattle.base_lists.proofs.Common.{◌≡◌, ◌∙◌, ap, ap₂, sym, subst, refl, ℕ, suc, ◌+◌, ◌<◌, ◌≤◌, ◌&&◌, List, [], ◌∷◌, ◌++◌, map, length, drop, replicate, Option, Some, None, Bool, true, arith, option_and_then, append-nil, slice_get, slice_index, IsTrue, ltb-true, length-append, length-map}
 use Rattle.base_lists.proofs.Common.{length-replicate, length-drop, map-id, slice_get_within, same_Some, left_true, right_true, length-numbers, numbers_at, numbers_index, places_many, append_at_left, map_at, map_twice, slice_get_there, append_rel, get_rel, opt_at, then_rel}
 use Rattle.base_lists.specs.Places.{numbers}
@@ -32,17 +33,18 @@ use Rattle.dce_behaves_proof.proofs.Imports.{kept_addresses}
 
 -- ---- marks of each space ----
 
--- the marks of an index space: of functions and globals those that are given; of other spaces all is kept
+-- The marks of an index space are the given ones for functions and globals. Of the other index
+-- spaces all entries are marked.
 abbrev pub all_marks : Marks → Module → Space → List Bool
 all_marks k t Functions = k.funcs
 all_marks k t Globals = k.globals
 all_marks k t space = replicate (length (imports_of space t) + defined_count space t) true
 
--- of what is defined
+-- The marks of the entries that the module defines.
 abbrev pub own_marks : Marks → Module → Space → List Bool
 own_marks k t space = drop (length (imports_of space t)) (all_marks k t space)
 
--- indices that are kept, and that have an entry
+-- The indices that are kept and have an entry in the map of the sweep.
 abbrev pub kept_indices : Marks → Module → Indices
 kept_indices k t space x = stays k space x && with_entry (sweep_map k t) space x
 
@@ -81,7 +83,7 @@ module _ (k : Marks) (t : Module) (c : AreClosed k t) where
   marked ElementSegments x l h = all_marked _ x l
   marked DataSegments x l h = all_marked _ x l
 
-  -- an import is kept as the entry of the index space is that it adds
+  -- An import is kept exactly if the entry that it adds to its index space is kept.
   pub alike : (space : Space) (i n : ℕ) → slice_get (imports_of space t) i ≡ Some (0 + n) → is_marked k.imports n ≡ is_marked (all_marks k t space) i
   alike space i n e = c.imported space i n (e ∙ ap Some (let z : 0 + n ≡ n = omega arith in z)) ∙ by space (slice_get_within (imports_of space t) i (0 + n) e)
     where
@@ -141,7 +143,6 @@ module _ (k : Marks) (t : Module) (c : AreClosed k t) where
       by [] = assumption (sym (append-nil plain.elems))
       by (f ∷ fs) = assumption
 
-  -- all of a list is kept where all is marked
   pub whole : {A : Type 0} (n d : ℕ) (xs : List A) → length xs ≡ d → kept (drop n (replicate (n + d) true)) xs ≡ xs
   whole n d xs e = ap (λ bs. kept bs xs) (drop_all n d) ∙ kept_all d xs (omega (arith, e))
 
@@ -181,7 +182,7 @@ module _ (k : Marks) (t : Module) (c : AreClosed k t) where
   pub datas_many : length u.datas ≡ length t.datas
   datas_many = ap length same.datas ∙ length-map t.datas (new_data r)
 
-  -- what is defined is as many as is kept, or more
+  -- What is left defines at least as many entities as are kept.
   pub fewer : {A : Type 0} (space : Space) (xs ys : List A) (new : A → A) (more : List A) → ys ≡ map new (kept (own_marks k t space) xs) ++ more → kept_before (own_marks k t space) (length xs) ≤ length ys
   fewer space xs ys new more e =
       let a = ap length e ∙ length-append (map new (kept (own_marks k t space) xs)) more in
@@ -219,7 +220,7 @@ module _ (k : Marks) (t : Module) (c : AreClosed k t) where
     pub own : SharesOwn R env
     own = record { funcs = stays_itself Functions; tables = stays_itself Tables; mems = stays_itself Memories; globals = stays_itself Globals }
 
-    -- the addresses of the imports that are left
+    -- The addresses of the imports that are left are those of the module that are kept.
     pub addresses_kept : (space : Space) (all : List ℕ) → u.imports ≡ kept k.imports t.imports → addresses env t.types t.imports space ≡ Some all → addresses env u.types u.imports space ≡ Some (kept (all_marks k t space) all)
     addresses_kept space all imports h =
         let many = marks_many space in
@@ -233,7 +234,7 @@ module _ (k : Marks) (t : Module) (c : AreClosed k t) where
           (_, spaces env u space ∙ ap (λ o. option_and_then (λ l. Some (l ++ world.numbers (own_count space env) (defined_count space u))) o) (addresses_kept space sx.imported imports sx.are))
 
       module _ (constants : ConstantsAloneReadTheEnvironment) (i j : Inst) (a : IsInst env (one t) 0 t i) (b : IsInst env (one u) 0 u j) where
-        -- an index that is kept names what its entry names
+        -- An index that is kept and its new index name related addresses.
         space_rel : (space : Space) (xs ys : List ℕ) → world.space env (one t) space 0 t ≡ Some xs → world.space env (one u) space 0 u ≡ Some ys → (x : ℕ) → IsTrue (kept_indices k t space x) → OptRel (R.of space) (slice_get xs x) (slice_get ys (slice_index (entries r space) x))
         space_rel space xs ys hx hy x h =
             let sx = space_at R env own t space xs hx in
@@ -250,7 +251,7 @@ module _ (k : Marks) (t : Module) (c : AreClosed k t) where
             (λ z l m. subst (λ bs. R.of space (own_count space env + z) (own_count space env + kept_before bs z)) (sym marks) (is_goes (own_count space env) (own_marks k t space) (own_count space env + z) _ (is_kept z refl (subst (λ bs. is_marked bs z ≡ true) marks m) refl)))
             x (omega (arith, low, many)) (marked space x e.0 (left_true _ _ h)))
 
-        -- a segment stays at its address
+        -- The address of a segment does not change.
         segment_stays : (space : Space) (count x : ℕ) → own_count space env ≡ 0 → own_marks k t space ≡ replicate count true → x < count → R.of space x x
         segment_stays space count x zeroed marks l =
             let e = ap (λ bs. kept_before bs x) marks ∙ all_before count x (omega (arith, l)) in
@@ -309,7 +310,7 @@ module _ (k : Marks) (t : Module) (c : AreClosed k t) where
         -- ---- the records ----
 
         module _ (named : TreeNamesOnly (kept_indices k t) (kept_tree k t)) where
-          -- what stands at related addresses
+          -- Related addresses have corresponding definitions.
           placed : {A : Type 0} (space : Space) (definitions : Module → List A) (new : A → A) (more : List A) → ((d : Module) → defined_count space d ≡ length (definitions d)) → definitions u ≡ map new (kept (own_marks k t space) (definitions t)) ++ more →
               (correspond : ℕ → Inst → A → ℕ → Inst → A → Type 0) → ((x : ℕ) (d : A) → slice_get (definitions t) x ≡ Some d → is_marked (own_marks k t space) x ≡ true → correspond 0 i d 0 j (new d)) → (p q : ℕ) → R.of space p q → Partners env v w space definitions correspond p q
           placed space definitions new more counts are correspond each p q related = by (goes_is (own_count space env) (own_marks k t space) p q related)
@@ -338,7 +339,7 @@ module _ (k : Marks) (t : Module) (c : AreClosed k t) where
                   })
                   (each x d.0 d.1 m)
 
-          -- where a definition that is kept stands in what is kept
+          -- A definition that is kept names only indices that are kept.
           func_kept : (x : ℕ) (f : tree.Func) → slice_get t.funcs x ≡ Some f → is_marked (own_marks k t Functions) x ≡ true → FuncNamesOnly (kept_indices k t) f
           func_kept x f e m = named.funcs (kept_before (defined_funcs k t) x) f (kept_at (defined_funcs k t) t.funcs x f (subst (λ bs. is_marked bs x ≡ true) (sym own_funcs_marks) m) e)
 
@@ -348,7 +349,8 @@ module _ (k : Marks) (t : Module) (c : AreClosed k t) where
           item_kept : (x l : ℕ) (e : ElemSeg) (y : ConstExpr) → slice_get t.elems x ≡ Some e → slice_get (kept_elem k e).items l ≡ Some y → ConstNamesOnly (kept_indices k t) y
           item_kept x l e y h g = named.items x l (kept_elem k e) y (map_at (kept_elem k) t.elems x e h) g
 
-          -- of a segment that is not declarative all items are kept
+          -- An element segment corresponds to what is left of it: all items are kept unless it is
+          -- declarative.
           elems_correspond : (x : ℕ) (e : ElemSeg) → slice_get t.elems x ≡ Some e → ElemsCorrespond R (values_in env v 0) (values_in env w 0) e (moved_elem e)
           elems_correspond x e h = by e.mode refl
             where

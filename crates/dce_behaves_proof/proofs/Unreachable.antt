@@ -1,4 +1,5 @@
--- A module without one function that nothing else names: the marks that keep everything else are closed, and all exports stay in view.
+-- The removal of one function that nothing else names: the marks on everything else are closed, and
+-- all exports stay in view.
 use Rattle.base_lists.proofs.Common.{◌≡◌, ◌∙◌, ap, sym, refl, ℕ, suc, ◌-◌, ◌<◌, ◌∷◌, map, length, replicate, Some, true, false, arith, slice_get, length-append, length-map, slice_get_within, places_many}
 use Rattle.base_lists.proofs.Filtered.{place_back}
 use Rattle.std.proofs.lemmas.List.{length-replicate, get_or_append_left}
@@ -16,7 +17,7 @@ module _ (t : Module) (n : ℕ) where
   abbrev k : Marks
   k = all_but n t
 
-  -- an entry of an index space that is an import is kept
+  -- An imported entry of an index space is kept.
   stays_there : (space : Space) (i : ℕ) → i < length (imports_of space t) → stays k space i ≡ true
   stays_there Functions i l =
       let counted : length (imports_of Functions t) ≡ length (imported_funcs t.imports) = places_many _ _ t.imports (grind arith) 0 in
@@ -32,7 +33,7 @@ module _ (t : Module) (n : ℕ) where
   stays_there ElementSegments i l = refl
   stays_there DataSegments i l = refl
 
-  -- an import is kept, as its entry is
+  -- An import is kept exactly if the entry that it adds to its index space is kept.
   imported : (space : Space) (i m : ℕ) → slice_get (imports_of space t) i ≡ Some m → is_marked k.imports m ≡ stays k space i
   imported space i m h =
       let back = place_back (has_kind space) t.imports 0 i m h in

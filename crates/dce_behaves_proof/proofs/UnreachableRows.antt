@@ -1,4 +1,5 @@
--- A small valid module: nothing names its first function, which calls the second, so the law is about it; its third function is called, so it is not.
+-- A small valid module. Nothing names its first function, so the law applies to that function. Its
+-- second function calls the third, so the law does not apply to the third.
 use Rattle.base_lists.proofs.Common.{◌≡◌, ℕ, zero, suc, [], ◌∷◌, Some, None, true, false, arith, refl, slice_get, same_Some, IsTrue}
 use Rattle.wasm_tree_spec.specs.Prelude.{the_lemmas, FuncType, Types, Functions, Call, Func, Export, Module}
 use Rattle.wasm_tree.specs.declared.instr.Instr.{out-Instr}
@@ -9,11 +10,11 @@ use Rattle.index_remap_proof.specs.Indices.{Indices, FuncNamesOnly, ExportNamesO
 use Rattle.dce_sweep_spec.specs.Swept.{kept_tree, swept}
 use Rattle.dce_behaves_proof.specs.Unreachable.{all_but, IsUnreachable, removed}
 
--- from nothing to nothing
+-- The function type without parameters and results.
 abbrev nothing : FuncType
 nothing = record { params = []; results = [] }
 
--- a function that calls this one
+-- A function that only calls the function at this index.
 abbrev calls : ℕ → Func
 calls func = record { ty = 0; locals = []; body = Call func ∷ [] }
 
@@ -23,7 +24,8 @@ empty = record { ty = 0; locals = []; body = [] }
 abbrev exported : ℕ → Export
 exported func = record { name = 102 ∷ []; desc = ex.Func func }
 
--- the second function calls the third, and is exported; nothing names the first, which calls the second
+-- The first function calls the second, and the second, which is exported, calls the third. Nothing
+-- names the first.
 abbrev three : Module
 three = record {
   types = nothing ∷ [];
@@ -46,7 +48,7 @@ second_is_typed : WellTyped (body_context three (calls 2) nothing) (Call 2 ∷ [
 unfolding out-Instr denote.Hole.Carrier.out
 second_is_typed = ([], ([], (Gives [] [], refl, ([], [], refl, tt, refl)), refl), tt)
 
--- its functions, its export, and the bodies of the functions
+-- The evidence is listed in this order: functions, export, bodies of functions.
 three_is_valid : IsValid three
 three_is_valid = (
   (calls 1, refl, omega arith),
@@ -59,7 +61,7 @@ three_is_valid = (
   ),
 )
 
--- what is left without the first names one type and the other two functions
+-- What is left without the first function names only type 0 and the other two functions.
 names_these : (kept : Indices) → IsTrue (kept Types 0) → IsTrue (kept Functions 1) → IsTrue (kept Functions 2) → TreeNamesOnly kept (kept_tree (all_but 0 three) three)
 unfolding out-Instr denote.Hole.Carrier.out
 names_these kept type second third = record {
@@ -85,12 +87,12 @@ names_these kept type second third = record {
 first_is_unreachable : IsUnreachable 0 three
 first_is_unreachable = record { not_named = names_these _ refl refl refl; all_exist = names_these _ refl refl refl }
 
--- behind it indices go down by one, and so does that of the export
+-- The indices of the functions behind the removed one go down by one, also in the export.
 indices_go_down : removed 0 three ≡ record three { funcs = calls 1 ∷ empty ∷ []; exports = exported 0 ∷ [] }
 unfolding swept
 indices_go_down = search (the_lemmas)
 
--- the third is called, so it is not unreachable
+-- The third function is not unreachable, because the second calls it.
 third_is_reachable : IsUnreachable 2 three → ⊥
 unfolding out-Instr denote.Hole.Carrier.out
 third_is_reachable h = let k = h.not_named.funcs 1 (calls 2) refl in let z : false ≡ true = k.1.0.0 in cc

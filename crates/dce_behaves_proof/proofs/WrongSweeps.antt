@@ -1,5 +1,6 @@
--- Sweeps that are wrong, of a small module: what is seen of the module is not seen of what they leave, by computation. The module is valid and its marks
--- are closed, so that the law `swept_module_equivalent` speaks of it: a sweep that leaves such a module breaks it.
+-- Three wrong sweeps of a small module: each leaves a module with another trace, by computation.
+-- The module is valid and its marks are closed, so the law `swept_module_equivalent` applies to it,
+-- and each wrong sweep breaks the law.
 use Rattle.base_lists.proofs.Common.{◌≡◌, refl, ap, subst, sym, ℕ, zero, suc, List, [], ◌∷◌, Some, None, true, false, arith, slice_get, Contains, get_or, same_Some}
 use Rattle.wasm_tree_spec.specs.Prelude.{the_lemmas, FuncType, Space, Types, Functions, Tables, Memories, Globals, ElementSegments, DataSegments, Export, Func, Import, Module}
 use Rattle.wasm_tree.specs.declared.instr.Instr.{out-Instr}
@@ -20,7 +21,7 @@ use Rattle.dce_behaves_proof.specs.Laws.{ObservationallyEquivalent}
 
 -- ---- the module ----
 
--- the names own, a, b, f and g
+-- The names own, a, b, f and g, as characters.
 abbrev own : Text
 own = 111 ∷ 119 ∷ 110 ∷ []
 
@@ -42,14 +43,15 @@ nothing = record { params = []; results = [] }
 abbrev own_func : Text → Import
 own_func field = record { «module» = own; field = field; desc = im.Func 0 }
 
--- a function that calls this one
+-- A function that only calls the function at this index.
 abbrev calls : ℕ → Func
 calls func = record { ty = 0; locals = []; body = i.Call func ∷ [] }
 
 abbrev export : Text → ℕ → Export
 export name func = record { name = name; desc = ex.Func func }
 
--- a calls f and b calls g, both of the environment; b is the start too
+-- The function exported as `a` calls `f` and the one exported as `b` calls `g`. Both `f` and `g`
+-- come from the environment. The start function is that of `b`.
 abbrev whole : Module
 whole = record {
   types = nothing ∷ [];
@@ -64,7 +66,7 @@ whole = record {
   datas = [];
 }
 
--- b is kept, and what it calls
+-- These marks keep `b` and what it calls.
 abbrev second : Marks
 second = record { exports = false ∷ true ∷ []; imports = false ∷ true ∷ []; funcs = false ∷ true ∷ false ∷ true ∷ []; globals = [] }
 
@@ -89,7 +91,7 @@ not_a : Contains (a ∷ []) b → ⊥
 not_a (zero, lt, e) = let h : 97 ≡ 98 = ap (λ name. get_or name 0 0) e in absurd (omega (arith, h))
 not_a (suc k, lt, e) = absurd (omega (arith, lt))
 
--- its imports, functions and exports, its start and the bodies of the functions
+-- The evidence is listed in this order: imports, functions, exports, start, bodies of functions.
 whole_is_valid : IsValid whole
 whole_is_valid = (
   (own_func f, refl, omega arith),
@@ -159,7 +161,7 @@ offered field = record { pair = (own, field); funcs = nothing ∷ []; table = No
 abbrev both : Environment
 both = offered f ∷ offered g ∷ []
 
--- the start is answered, then b is called and answered
+-- The environment answers the call of the start function, then calls `b` and answers its call.
 abbrev moves : List Move
 moves = Answer [] ∷ Call b [] ∷ Answer [] ∷ []
 
@@ -179,15 +181,15 @@ what_is_left_asks_for_g = refl
 
 -- ---- wrong sweeps ----
 
--- the function that is not kept stands under the name of the one that is
+-- A wrong result: it imports `f`, which is not kept, in place of `g`.
 abbrev other_kept : Module
 other_kept = record left { imports = own_func f ∷ [] }
 
--- the start is not kept
+-- A wrong result: it has no start function.
 abbrev start_forgotten : Module
 start_forgotten = record left { start = None }
 
--- no export is kept
+-- A wrong result: it has no export.
 abbrev export_dropped : Module
 export_dropped = record left { exports = [] }
 
@@ -206,11 +208,12 @@ without_an_export_nothing_is_called : events (alone export_dropped) both moves 2
 unfolding out-Instr denote.Hole.Carrier.out wrapped
 without_an_export_nothing_is_called = refl
 
--- No sweep that leaves this module satisfies the law.
+-- No sweep that makes this module of the module above satisfies the law.
 abbrev BreaksTheLaw : Module → Type 0
 BreaksTheLaw wrong = (sweep : Marks → Module → Module) → sweep second whole ≡ wrong → ((k : Marks) (t : Module) → IsValid t → AreClosed k t → ObservationallyEquivalent k t (sweep k t)) → ⊥
 
--- Where what is seen of the module does not begin what is seen of another, that one does not behave as the module.
+-- Another module is not equivalent to the module if the trace of the module is no prefix of its
+-- trace.
 refused : (wrong : Module) (xs ys : List Event) → events (unswept second whole) both moves 20 ≡ xs → events (alone wrong) both moves 20 ≡ ys → (IsPrefix xs ys → ⊥) → ObservationallyEquivalent second whole wrong → ⊥
 refused wrong xs ys seen shown apart same = apart (rw (← seen) (rw (← shown) (same both refl refl moves 20).0))
 
@@ -218,7 +221,7 @@ breaks : (wrong : Module) (ys : List Event) → events (alone wrong) both moves 
 breaks wrong ys shown apart sweep gives law =
     refused wrong g_twice ys the_module_asks_for_g shown apart (subst (ObservationallyEquivalent second whole) gives (law second whole whole_is_valid second_is_closed))
 
--- the field of the function that the first event asks for
+-- The field name of the function that the first event asks for.
 abbrev asked_first : List Event → Text
 asked_first (Asked pair ty xs ∷ es) = pair.1
 asked_first _ = []

@@ -1,4 +1,4 @@
--- What is left of a module has the numbers of the module.
+-- The numbers of what is left of a module are in range, because they are numbers of the module.
 use Rattle.base_lists.proofs.Common.{List, [], ◌∷◌, Bool, true, false, cond, IsUtf8}
 use Rattle.base_lists.proofs.Every.{every_map}
 use Rattle.std.proofs.Common.{filter}
@@ -11,7 +11,7 @@ use Rattle.dce_sweep_spec.specs.Swept.{is_kept_ref, kept_items, kept_elem, defin
 use Rattle.wasm_write_proof.specs.Ranges.{InRange}
 use Rattle.merge_encode_proof.specs.Numbers.{ConstNumberInRange, ImportNumbersInRange, FuncNumbersInRange, ElemNumbersInRange, NumbersInRange, OwnNumbersAreInRange, RenumberedNumbersAreInRange, DeclaredNumbersAreInRange}
 
--- what is so of each is so of those that are kept
+-- A property of all elements holds of those that are kept.
 kept_every : {A : Type 0} (P : A → Type 0) (bs : List Bool) (xs : List A) → Every P xs → Every P (kept bs xs)
 kept_every P [] xs h = tt
 kept_every P (b ∷ bs) [] h = tt

@@ -1,4 +1,4 @@
--- There are marks that are exactly on what is reached, and they are one.
+-- The marks on exactly what is reached exist, and they are unique.
 use Rattle.base_lists.proofs.Common.{◌≡◌, ◌∙◌, ◌⊎◌, inl, inr, refl, sym, ap, ap₂, ℕ, zero, suc, ◌+◌, ◌<◌, List, [], ◌∷◌, ◌++◌, length, Bool, true, false, get_or, arith, ◌↔◌}
 use Rattle.std.proofs.Common.{length-append}
 use Rattle.wasm_tree_spec.specs.Prelude.{Module}
@@ -11,9 +11,10 @@ use Rattle.dce_graph.specs.Marks.{AreExact, unmet, with_mark, blank_marks}
 use Rattle.dce_graph.proofs.Marking.{spread_none, spread_old, spread_new, spread_then}
 use Rattle.dce_graph.proofs.Searching.{Good, good_start, good_more, good_end}
 
--- ---- there are some: a search, as a definition, over the marks that it has set and the points that wait ----
+-- ---- existence: a search, as a definition, over the marks that are set and the points that wait
+-- ----
 
--- what a search comes to that meets some points
+-- The marks and the waiting points of a search after it met some points.
 record Met (marks : Reached) (stack ps : List Point) : Type 0 where
   new : Reached
   waiting : List Point
@@ -33,7 +34,7 @@ meet_all r stack (p ∷ ps) =
     let rest = meet_all first.new first.waiting ps in
     record { new = rest.new; waiting = rest.waiting; spread = spread_then (record { marks = r; stack = stack }) (record { marks = first.new; stack = first.waiting }) (record { marks = rest.new; stack = rest.waiting }) (p ∷ []) ps first.spread rest.spread }
 
--- the last of some points, if there are any
+-- A list of points is empty or has a last point.
 abbrev Last : List Point → Type 0
 Last ps = (ps ≡ []) ⊎ ((before : List Point) × (p : Point) × (ps ≡ before ++ p ∷ []))
 
@@ -51,7 +52,8 @@ SomeExact g m = (r : Reached) × AreExact g m r
 abbrev GoodAt : Graph → Module → Reached → List Point → Type 0
 GoodAt g m r stack = Good (routes g m) (record { marks = r; stack = stack })
 
--- one step of a search, while there is one, and then all others
+-- A search either has no waiting point and ends with exact marks, or it takes one step and
+-- continues with less fuel.
 on_last : (g : Graph) (m : Module) (fuel : ℕ) (r : Reached) (stack : List Point) → GoodAt g m r stack → unmarked r + length stack < suc fuel
     → ((s : Reached) (st : List Point) → GoodAt g m s st → unmarked s + length st < fuel → SomeExact g m) → Last stack → SomeExact g m
 on_last g m fuel r stack good few more (inl none) = (r, record { exactly = good_end (routes g m) (record { marks = r; stack = stack }) good none; one_each = good.as_many })

@@ -99,7 +99,7 @@ of_export (export.Global i) = (tt, tt)
 
 -- ---- edges to imports ----
 
--- the place at which an import stands among those into its space
+-- Import `n` adds entry `i` to the index space.
 abbrev Adds : Module → Space → ℕ → ℕ → Type 0
 Adds m space i n = slice_get (imports_into space m.imports) i ≡ Some n
 
@@ -151,7 +151,7 @@ in_places (i ∷ is) n h = ⊎_elim
     (λ k. let r = in_places is n k in (suc r.0, r.1))
     (Contains-append_cases (Import i ∷ []) (map Import is) (Import n) h)
 
--- an import of which a test holds
+-- Import `n` exists and passes the test.
 abbrev Passes : Module → ℕ → (ModuleImport → Bool) → Type 0
 Passes m n test = (d : ModuleImport) × (slice_get m.imports n ≡ Some d) × (test d ≡ true)
 
@@ -203,7 +203,7 @@ not_of_both (im.Table t) e f = cc
 not_of_both (im.Memory l) e f = cc
 not_of_both (im.Global t) e f = cc
 
--- one import passes two tests
+-- An import at one place that passes each of two tests is one import that passes both.
 both_pass : (m : Module) (n : ℕ) (s t : ModuleImport → Bool) → Passes m n s → Passes m n t → (d : ModuleImport) × (s d ≡ true) × (t d ≡ true)
 both_pass m n s t a b =
     let same : a.0 ≡ b.0 = cc (sym a.1 ∙ b.1) in

@@ -1,4 +1,4 @@
--- One mark more, and points that are met one after another.
+-- The setting of a mark, and a search that meets points one after another.
 use Rattle.base_lists.proofs.Common.{◌≡◌, ℕ, zero, suc, ◌<◌, List, [], ◌∷◌, ◌++◌, length, Bool, true, false, get_or, slice_get, slice_set, ◌⊎◌, inl, inr, ⊎_elim, refl, sym, ap, ◌∙◌, subst, arith, Contains, Contains-push, Contains-append_left, Contains-append_right, Contains-push_cases}
 use Rattle.base_lists.proofs.Common.{Contains-append_cases}
 use Rattle.dce_graph.specs.declared.point.Point.{Point}
@@ -48,7 +48,7 @@ list_met (x ∷ xs) (suc i) e lt = list_met xs i e (omega arith)
 
 -- ---- over the kinds ----
 
--- a mark goes into the list of its kind, in which no other point has its place
+-- The mark of a point is set in the list of its kind, in which no other point has its place.
 set_in_kind : (r : Reached) (p : Point) → flags (with_mark r p) p ≡ slice_set (flags r p) (place_in_kind p) true
 set_in_kind r (Node i) = refl
 set_in_kind r (Export i) = refl
@@ -132,7 +132,7 @@ spread_then a b c ps qs f g =
       as_many = λ q. g.as_many q ∙ f.as_many q;
     }
 
--- the order of points says nothing
+-- The result of meeting points does not depend on their order or repetition.
 pub spread_as : (a b : Search) (ps qs : List Point) → ((q : Point) → Contains ps q → Contains qs q) → ((q : Point) → Contains qs q → Contains ps q) → Spread a ps b → Spread a qs b
 spread_as a b ps qs to from f = record {
   met = λ q h p. f.met q (from q h) p;
@@ -145,7 +145,7 @@ spread_as a b ps qs to from f = record {
   as_many = f.as_many;
 }
 
--- a point that was met before, or is not there
+-- A point that was met before or does not exist does not change the search.
 pub spread_old : (s : Search) (p : Point) → unmet s.marks p ≡ false → Spread s (p ∷ []) s
 spread_old s p old = record {
   met = λ q h k. subst (λ x. marked s.marks x ≡ true) (alone p q h) (list_met (flags s.marks p) (place_in_kind p) old (subst (λ x. HasMark s.marks x) (sym (alone p q h)) k));
@@ -162,7 +162,7 @@ last_long : (ps : List Point) (p : Point) → length (ps ++ p ∷ []) ≡ suc (l
 last_long [] p = refl
 last_long (q ∷ qs) p = ap suc (last_long qs p)
 
--- a point that is met now
+-- A point that is met for the first time gets a mark and waits on the stack.
 pub spread_new : (s : Search) (p : Point) → unmet s.marks p ≡ true → Spread s (p ∷ []) (record { marks = with_mark s.marks p; stack = s.stack ++ p ∷ [] })
 spread_new s p new =
     let r : Reached = s.marks in

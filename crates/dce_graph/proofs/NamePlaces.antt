@@ -1,4 +1,4 @@
--- Places of names, one name further.
+-- The places of names in a list that grows by one name.
 use Rattle.base_lists.proofs.Common.{◌≡◌, ◌∙◌, sym, ap, refl, ℕ, zero, suc, ◌+◌, ◌<◌, List, [], ◌∷◌, ◌++◌, length, take, drop, get_or, Option, Some, None, Bool, true, false, cond, is_some, arith, option_map, bytes_eq, bytes_eq-Decides, length-take-le}
 use Rattle.dce_graph.specs.declared.fault.GraphFault.{GraphFault}
 use Rattle.dce_graph.specs.declared.fault.GraphFault.TheVariants.{UnknownNode}
@@ -27,7 +27,7 @@ same_back x y = by (bytes_eq x y) refl
     by true e = e ∙ sym ((bytes_eq-Decides y x).1 (sym (same_from x y e)))
     by false e = e ∙ sym (differ y x (λ s. false≢true (sym e ∙ (bytes_eq-Decides x y).1 (sym s))))
 
--- a name that has no place differs from each before it
+-- A name that is not in a list differs from the first name of the list and is not in the rest.
 head_differs : (name b : Text) (before : List Text) (k : ℕ) → is_some (first_place (bytes_eq name) (b ∷ before) k) ≡ false → (bytes_eq name b ≡ false) × (is_some (first_place (bytes_eq name) before (suc k)) ≡ false)
 head_differs name b before k h = by (bytes_eq name b) refl
   where
@@ -35,7 +35,7 @@ head_differs name b before k h = by (bytes_eq name b) refl
     by true e = let no = rw e at h in cc
     by false e = (e, (let rest = rw e at h in rest))
 
--- the place of a new name is behind the others, which keep theirs
+-- A new name has the last place of the longer list. The other names keep their places.
 place_push : (before : List Text) (name q : Text) (k : ℕ) → is_some (first_place (bytes_eq name) before k) ≡ false
     → first_place (bytes_eq q) (before ++ name ∷ []) k ≡ cond (bytes_eq name q) (Some (k + length before)) (first_place (bytes_eq q) before k)
 place_push [] name q k h = by (bytes_eq name q) refl
@@ -59,7 +59,7 @@ pub names_long : (es : List Read) → length (names_of (entries_now es)) ≡ len
 names_long [] = refl
 names_long (x ∷ es) = ap suc (names_long es)
 
--- the first name that stands twice, at a name that is new
+-- The first repeated name comes later where the current name is new.
 pub repeated_more : (names : List Text) (i : ℕ) (name : Text) → i < length names → name ≡ get_or names i name → is_some (place_of_name (take i names) name) ≡ false
     → repeated_after (take i names) (drop i names) ≡ repeated_after (take (i + 1) names) (drop (i + 1) names)
 repeated_more names i name within is new =
@@ -67,7 +67,7 @@ repeated_more names i name within is new =
     ∙ ap (λ b. cond b (Some name) (repeated_after (take i names ++ name ∷ []) (drop (i + 1) names))) new
     ∙ ap (λ xs. repeated_after xs (drop (i + 1) names)) (sym (done_more names i name within is))
 
--- and at one that is not
+-- The first repeated name is the current name where that occurred before.
 pub repeated_here : (names : List Text) (i : ℕ) (name : Text) → i < length names → name ≡ get_or names i name → is_some (place_of_name (take i names) name) ≡ true
     → repeated_after (take i names) (drop i names) ≡ Some name
 repeated_here names i name within is old =
@@ -81,7 +81,8 @@ places_more names i name q within is new =
     ∙ place_push (take i names) name q 0 new
     ∙ ap (λ n. cond (bytes_eq name q) (Some n) (place_of_name (take i names) q)) (let z : 0 + length (take i names) ≡ i = omega (arith, length-take-le i names) in z)
 
--- where all of the first are known, what is unknown is among the others
+-- If all names of the first list are known, the first unknown name of both is that of the second
+-- list.
 pub unknown_behind : (place : Text → Option ℕ) (ts us : List Text) → first_unknown place ts ≡ None → first_unknown place (ts ++ us) ≡ first_unknown place us
 unknown_behind place [] us h = refl
 unknown_behind place (t ∷ ts) us h = by (is_some (place t)) refl (unknown_behind place ts us)
@@ -90,7 +91,7 @@ unknown_behind place (t ∷ ts) us h = by (is_some (place t)) refl (unknown_behi
     by true e on = on (let k = rw e at h in k)
     by false e on = let k = rw e at h in cc
 
--- what is unknown of the first is unknown of all
+-- If the first list has an unknown name, the first unknown name of both is that of the first list.
 pub unknown_before : (place : Text → Option ℕ) (ts us : List Text) (u : Text) → first_unknown place ts ≡ Some u → first_unknown place (ts ++ us) ≡ Some u
 unknown_before place [] us u h = cc
 unknown_before place (t ∷ ts) us u h = by (is_some (place t)) refl (unknown_before place ts us u)
@@ -99,11 +100,12 @@ unknown_before place (t ∷ ts) us u h = by (is_some (place t)) refl (unknown_be
     by true e on = on (let k = rw e at h in k)
     by false e on = let k = rw e at h in k
 
--- the names that the entries from i on reach
+-- The names that the entries from place `i` on reach are those of entry `i` and those of the
+-- entries behind it.
 pub reached_more : (es : List Read) (i : ℕ) (e : Read) → i < length es → e ≡ get_or es i e → reached_names (entries_now (drop i es)) ≡ (entry_now e).reaches ++ reached_names (entries_now (drop (i + 1) es))
 reached_more es i e within is = ap (λ xs. reached_names (entries_now xs)) (left_more es i e within is)
 
--- likewise of the fault that names it
+-- The fault that names the first unknown name of the first list is also the fault of both lists.
 pub unknown_in : (place : Text → Option ℕ) (ts us : List Text) (f : GraphFault) → option_map UnknownNode (first_unknown place ts) ≡ Some f → option_map UnknownNode (first_unknown place (ts ++ us)) ≡ Some f
 unknown_in place ts us f h = by (first_unknown place ts) refl
   where

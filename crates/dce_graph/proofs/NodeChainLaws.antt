@@ -1,4 +1,4 @@
--- The nodes that denote one module and field, met from the last to the first.
+-- The chain of the nodes that denote one module and field, from the last to the first.
 use Rattle.base_lists.proofs.Common.{◌≡◌, ◌∙◌, sym, ap, refl, ℕ, zero, suc, ◌+◌, ◌<◌, ◌≤◌, List, [], ◌∷◌, ◌++◌, map, take, drop, length, Bool, true, false, cond, Option, Some, None, slice_get, subst, ap₂, ◌&&◌, inl, inr, ⊎_elim, arith, Contains, option_and_then, option_or, nat_cmp, ordering_then}
 use Rattle.base_lists.proofs.Common.{slice_cmp, cases_eq, is_eq-slice_cmp, slice_get_within, push_last, push_before, append_at_left, bytes_eq, and_parts, length-append, length-take-le, take_all, drop_all, take-append-le, Contains-push, Contains-append_left, Contains-append_right}
 use Rattle.base_lists.proofs.Common.{Contains-push_cases, Contains-append_cases, bytes_eq-Decides}
@@ -17,7 +17,8 @@ use Rattle.dce_graph.specs.Prelude.{Text, Spread, pair_is, last_place, is_of_pai
 use Rattle.dce_graph.specs.Walks.{last_of_pair, AreLookups, IsMeeting, ahead}
 use Rattle.dce_graph.proofs.Marking.{spread_none, spread_then, spread_as}
 
--- where the last is nowhere, there are no places
+-- If no element of the first list passes the test, all places of elements that pass lie in the
+-- second list.
 none_joined : {A : Type 0} (test : A → Bool) (xs zs : List A) (j : ℕ) → last_place test xs j ≡ None → places test (xs ++ zs) j ≡ places test zs (j + length xs)
 none_joined test [] zs j h = ap (places test zs) (let e : j ≡ j + 0 = omega arith in e)
 none_joined {A} test (x ∷ xs) zs j h = by (last_place test xs (suc j)) refl (test x) refl (none_joined test xs zs (suc j))
@@ -27,7 +28,7 @@ none_joined {A} test (x ∷ xs) zs j h = by (last_place test xs (suc j)) refl (t
     by None e true f on = let bad = rw (e, f) at h in cc
     by None e false f on = ap (λ t. cond t (j ∷ places test (xs ++ zs) (suc j)) (places test (xs ++ zs) (suc j))) f ∙ on e ∙ ap (places test zs) (let k : suc j + length xs ≡ j + suc (length xs) = omega arith in k)
 
--- the last of the elements xs, behind which zs stand
+-- The last element of the list `xs` that passes the test, where the list `zs` follows `xs`.
 pub record IsLast {A : Type 0} (test : A → Bool) (xs zs : List A) (j n : ℕ) : Type 0 where
   pub place : ℕ
   pub element : A
@@ -77,7 +78,7 @@ split zero xs = refl
 split (suc k) [] = refl
 split (suc k) (x ∷ xs) = ap (λ ys. x ∷ ys) (split k xs)
 
--- the last among the first k
+-- The last element among the first `k` that passes the test.
 pub record IsLastBefore {A : Type 0} (test : A → Bool) (xs : List A) (k n : ℕ) : Type 0 where
   pub element : A
   pub before : n < k
@@ -105,7 +106,7 @@ none_before test xs k le h =
     let long : length (take k xs) ≡ k = length-take-le k xs le in
     sym (ap (λ ys. places test ys 0) (sym (split k xs)) ∙ none_joined test (take k xs) (drop k xs) 0 h ∙ ap (places test (drop k xs)) (let e : 0 + length (take k xs) ≡ k = omega (arith, long) in e))
 
--- one element more
+-- The last place of a list with one more element is that of the new element if it passes the test.
 pub last_more : {A : Type 0} (test : A → Bool) (xs : List A) (x : A) (j : ℕ) → last_place test (xs ++ x ∷ []) j ≡ cond (test x) (Some (j + length xs)) (last_place test xs j)
 last_more test [] x j = by (test x)
   where
@@ -120,7 +121,7 @@ last_more test (y ∷ ys) x j = ap (λ o. option_or o (cond (test y) (Some j) No
 
 -- ---- meeting them ----
 
--- a node that denotes a module and a field has them in its import
+-- A node that denotes a module and a field has an import with these texts.
 pub pair_there : (a b : Text) (o : Option ImportPair) → pair_is a b o ≡ true → (pair : ImportPair) × (o ≡ Some pair) × (pair.«module» ≡ a) × (pair.base ≡ b)
 pair_there a b None h = cc
 pair_there a b (Some pair) h =
@@ -142,7 +143,8 @@ meeting_starts nodes test next s is =
 pub meeting_last : (nodes : List GraphNode) (test : GraphNode → Bool) (next : Option ℕ) (old s : Search) (n : ℕ) → IsMeeting nodes test next old s → next ≡ Some n → (k : ℕ) × IsLastBefore test nodes k n
 meeting_last nodes test next old s n m is = (m.from, last_before test nodes m.from n m.there (sym m.next_is ∙ is))
 
--- the node before it that denotes the same
+-- The entry of a node in the chain is the last node before it that denotes the same module and
+-- field.
 pub next_is : (w : Walk) (a b : Text) (k n : ℕ) → AreLookups w → IsLastBefore (is_of_pair a b) w.graph.now.nodes k n → slice_get w.before.items n ≡ Some (last_place (is_of_pair a b) (take n w.graph.now.nodes) 0)
 next_is w a b k n lookups l =
     let nodes = w.graph.now.nodes in
@@ -188,7 +190,7 @@ pair_tested m f a b pair is_m is_f =
 pub one_longer : {A : Type 0} (xs : List A) (x : A) (n : ℕ) → length xs ≡ n → length (xs ++ x ∷ []) ≡ n + 1
 one_longer xs x n h = omega (arith, length-append xs (x ∷ []), h)
 
--- one node more
+-- The chains stay right when one more node is noted.
 pub standing_more : (ns : List GraphNode) (x : GraphNode) (old new : BTreeMap (Bor Text × Bor Text) ℕ) (before : List (Option ℕ)) (d : Option ℕ) → AreNodeChains ns old before → length before ≡ length ns
     → ((a b : Text) → found_pair new a b ≡ cond (pair_is a b x.import) (Some (length ns)) (found_pair old a b)) → d ≡ option_and_then (λ pair. found_pair old pair.«module» pair.base) x.import
     → AreNodeChains (ns ++ x ∷ []) new (before ++ d ∷ [])

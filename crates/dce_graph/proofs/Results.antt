@@ -1,4 +1,4 @@
--- From what each stage of reading finds to what the file comes to.
+-- The result of reading a graph file, from the result of each stage of reading.
 use Rattle.base_lists.proofs.Common.{◌≡◌, ◌∙◌, sym, ap, refl, ℕ, List, map, Option, Some, None, Bool, true, false, cond, subst, Ok, ◌⊎◌, inl, inr, IsUtf8, option_map, filter_map, is_utf8, IsUtf8-from_is_utf8, is_utf8-from_IsUtf8}
 use Rattle.serde_json.specs.Data.{Data}
 use Rattle.serde_json.specs.Find.{as_array}
@@ -12,7 +12,7 @@ use Rattle.dce_graph.specs.Prelude.{Text, entry_of, misshapen, names_of, place_o
 use Rattle.dce_graph.specs.GraphFile.{GraphEntry, value_of, if_shaped, if_distinct, if_known, if_array, graph_of_values, IsFault}
 use Rattle.dce_graph.proofs.Texts.{listed_items}
 
--- a fault that is told of a part is told of the whole, where the part's is the whole's
+-- A fault of one stage is a fault of the whole reading if each fault of that stage is.
 pub fault_stays : (e : GraphFault) (o p : Option GraphFault) → ((f : GraphFault) → o ≡ Some f → p ≡ Some f) → IsFault e o → IsFault e p
 fault_stays GraphFault.NoMemory o p on h = tt
 fault_stays GraphText o p on h = on GraphText h
@@ -20,7 +20,7 @@ fault_stays (GraphShape n) o p on h = on (GraphShape n) h
 fault_stays (NodeTwice t) o p on h = on (NodeTwice t) h
 fault_stays (UnknownNode t) o p on h = on (UnknownNode t) h
 
--- look-ups that find the same are the same
+-- Look-ups that give equal results are equal functions.
 same_look_ups : (f g : Text → Option ℕ) → ((q : Text) → f q ≡ g q) → f ≡ g
 same_look_ups f g h = λ i q. h q i
 
@@ -39,7 +39,7 @@ pub unknown_comes : (o : Option Text) (made : List Node) (f : GraphFault) → op
 unknown_comes None made f h = cc
 unknown_comes (Some t) made f h = h
 
--- bytes that are no text or no JSON
+-- Bytes that are not UTF-8 or not JSON have no value.
 pub no_value : (bytes : List ℕ) → (IsUtf8 bytes → read bytes ≡ None) → value_of bytes ≡ None
 no_value bytes h = by (is_utf8 bytes) refl
   where
@@ -54,11 +54,11 @@ pub result_of_values : (bytes : List ℕ) (d : Data) (vs : List Value) → IsUtf
 result_of_values bytes d vs utf8 is items =
     ap if_text (value_is bytes d utf8 is) ∙ ap if_array (sym items) ∙ ap graph_of_values (listed_items (map view vs))
 
--- what an error of the reading of JSON comes to
+-- An error of the reading of JSON is a fault of the graph file.
 pub text_comes : (bytes : List ℕ) (e : GraphFault) (N : Type 0) → (e ≡ GraphFault.NoMemory) ⊎ ((e ≡ GraphText) × N) → (N → IsUtf8 bytes → read bytes ≡ None) → IsFault e (fault_of (graph_result bytes))
 text_comes bytes e N (inl is) h = subst (λ x. IsFault x (fault_of (graph_result bytes))) (sym is) tt
 text_comes bytes e N (inr is) h = subst (λ x. IsFault x (fault_of (graph_result bytes))) (sym is.0) (ap (λ o. fault_of (if_text o)) (no_value bytes (h is.1)))
 
--- what a value that is no array comes to
+-- A value that is no array gives the fault of the shape at place 0.
 pub no_array_comes : (bytes : List ℕ) (d : Data) → IsUtf8 bytes → read bytes ≡ Some d → None ≡ as_array d → fault_of (graph_result bytes) ≡ Some (GraphShape 0)
 no_array_comes bytes d utf8 is none = ap (λ o. fault_of (if_text o)) (value_is bytes d utf8 is) ∙ ap (λ o. fault_of (if_array o)) (sym none)

@@ -1,4 +1,5 @@
--- Small graph files, and a small graph with a small module, computed: what is read, where edges lead, and what is reached.
+-- Small graph files, and a small graph with a small module, computed: what is read, where edges
+-- lead, and what is reached.
 use Rattle.base_lists.proofs.Common.{◌≡◌, refl, ℕ, List, [], ◌∷◌, Option, Some, None, Bool, true, false, Result, Ok, Err, codes, sym, subst, rules, arith, Contains}
 use Rattle.serde_json.proofs.OnLiterals.{serde_json_on_literals}
 use Rattle.wasm_tree_spec.specs.Prelude.{I32, Instr, the_lemmas, Module}
@@ -19,7 +20,7 @@ use Rattle.dce_graph.specs.Prelude.{if_text, IsReached, edges, roots, root, alon
 
 -- ---- files ----
 
--- what bytes that are UTF-8 come to
+-- The result of reading bytes that are UTF-8.
 abbrev comes_to : List ℕ → Result Graph GraphFault
 comes_to bytes = if_text (read bytes)
 
@@ -47,12 +48,13 @@ no_such_node : comes_to (codes "[{\"name\":\"a\",\"reaches\":[\"b\"]}]") ≡ Err
 unfolding serde_json_on_literals
 no_such_node = refl
 
--- the last of a key that is given twice counts
+-- The last value of a repeated key counts.
 the_last_counts : comes_to (codes "[{\"name\":\"b\",\"name\":\"a\",\"reaches\":[\"a\"]}]") ≡ Ok (record { nodes = record { name = codes "a"; root = false; reaches = 0 ∷ []; export = None; import = None } ∷ [] })
 unfolding serde_json_on_literals
 the_last_counts = refl
 
--- ---- a module of three functions behind an imported one, and a graph in which a node denotes the import ----
+-- ---- a module of an imported and three defined functions, and a graph that denotes the import
+-- ----
 
 abbrev func : List Instr → ModuleFunc
 func body = record { ty = 0; locals = []; body = body }
@@ -103,7 +105,7 @@ a_function_leads_to_what_it_names = search (rules, the_lemmas)
 first : (p : Point) (ps : List Point) → Contains (p ∷ ps) p
 first p ps = (0, omega arith, refl)
 
--- the second export is reached only through the import
+-- The second export is reached through the import.
 export_b_is_reached : IsReached page calling (Export 1)
 export_b_is_reached =
     let out = root {p = Node 0} (omega arith) (first (Node 0) []) in

@@ -1,4 +1,4 @@
--- From the roots to all that is reached.
+-- A search from the roots marks exactly what is reached.
 use Rattle.base_lists.proofs.Common.{◌≡◌, ℕ, zero, suc, ◌<◌, List, [], ◌∷◌, ◌++◌, length, replicate, true, false, get_or, ◌⊎◌, inl, inr, ⊎_elim, sym, ◌∙◌, subst, ◌↔◌, Contains, length-replicate, Contains-push, Contains-append_left, Contains-push_cases}
 use Rattle.wasm_tree_spec.specs.Prelude.{Module}
 use Rattle.dce_graph.specs.declared.graph.Graph.{Graph}
@@ -10,7 +10,7 @@ use Rattle.dce_graph.specs.Reach.{Routes, PointExists, IsReachedBy}
 use Rattle.dce_graph.specs.Marks.{with_stack, blank_marks, HasMark}
 use Rattle.dce_graph.proofs.Marking.{nowhere}
 
--- what holds before each step
+-- The invariant of a search.
 pub record Good (r : Routes) (s : Search) : Type 0 where
   pub sound : (p : Point) → marked s.marks p ≡ true → IsReachedBy r p
   pub roots : (p : Point) → PointExists r p → Contains r.roots p → marked s.marks p ≡ true

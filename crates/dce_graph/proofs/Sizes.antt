@@ -54,7 +54,7 @@ token_long p (Token.boolean t) b k n f v h = allowed_long (may_begin p) (Token.b
 token_long p Token.null b k n f v h = allowed_long (may_begin p) Token.null k after_value n v
 token_long p Token.bad b k n f v h = omega arith
 
--- what may come besides the lexemes: the fault of a text that ends behind a comma or a key
+-- The number of tokens besides the lexemes: one fault if the text ends behind a comma or a key.
 abbrev slack : Place → List Lexeme → ℕ
 slack fresh ls = 0
 slack after_value ls = 0
@@ -108,7 +108,7 @@ abbrev count : json.Items → ℕ
 count json.no_items = 0
 count (json.item j js) = suc (count js)
 
--- fewer items than the number of turns
+-- Fewer items were parsed than the fuel allows.
 abbrev Few : ℕ → Option (json.Items × List Token) → Type 0
 Few n None = Unit {0}
 Few n (Some p) = count p.0 < n
@@ -130,7 +130,7 @@ unfolding json.items
 items_few value zero ts = tt
 items_few value (suc n) ts = step_few value n (json.items value n) ts (items_few value n) (json.after_end_array ts)
 
--- the items of an array
+-- The number of items of an array, and 0 for any other value.
 abbrev items_in : json.Json → ℕ
 items_in json.null = 0
 items_in (json.boolean b) = 0

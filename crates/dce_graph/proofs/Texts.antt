@@ -8,12 +8,11 @@ use Rattle.serde_json.specs.declared.value.Value.{Value}
 use Rattle.dce_graph.specs.Prelude.{Text, texts_in}
 use Rattle.dce_graph.specs.GraphFile.{listed, texts_of, import_pair_of_two}
 
--- the items of an array of values are these values
 pub listed_items : (ds : List Data) → listed (items_of ds) ≡ ds
 listed_items [] = refl
 listed_items (d ∷ ds) = ap (λ xs. d ∷ xs) (listed_items ds)
 
--- what the texts of an array are: where each value is a text, they are these texts
+-- The texts of an array are those of its values, if each value is a text.
 pub texts_are : (d : Data) (vs : List Value) → Some (items_view vs) ≡ as_array d → texts_of d ≡ all_there as_str (map view vs)
 texts_are d vs e = ap (option_and_then (λ ds. all_there as_str (listed ds))) (sym e) ∙ ap (all_there as_str) (listed_items (map view vs))
 
@@ -31,7 +30,7 @@ all_texts (v ∷ vs) h =
     let first = text_there (as_str (view v)) both.0 in
     rw first.1 (one_more first.0 (all_there as_str (map view vs)) (texts_in vs) (all_texts vs both.1))
 
--- where one is not, there are none
+-- An array with a value that is no text has no texts.
 pub not_all_texts : (vs : List Value) → list_all (λ v. is_some (as_str (view v))) vs ≡ false → all_there as_str (map view vs) ≡ None
 not_all_texts [] h = cc
 not_all_texts (v ∷ vs) h = by (as_str (view v)) refl (λ e. not_all_texts vs e)
@@ -40,7 +39,7 @@ not_all_texts (v ∷ vs) h = by (as_str (view v)) refl (λ e. not_all_texts vs e
     by None e on = rw e refl
     by (Some t) e on = let rest = rw e at h in rw (e, on rest) refl
 
--- a pair is two texts and no more
+-- An array of another length than two gives no import pair.
 pub not_two : (vs : List Value) → length vs ≢ 2 → None ≡ option_and_then import_pair_of_two (all_there as_str (map view vs))
 not_two vs h = by (all_there as_str (map view vs)) refl
   where

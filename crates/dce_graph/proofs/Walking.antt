@@ -1,4 +1,4 @@
--- Points that a loop has met, one item further.
+-- The points that a loop has met after one more item.
 use Rattle.base_lists.proofs.Common.{◌≡◌, ◌∙◌, sym, ap, refl, ℕ, suc, ◌+◌, ◌<◌, List, [], ◌∷◌, ◌++◌, map, take, length, get_or, append_assoc, append-nil, Bool, true, false, cond, Option, Some, None, Result, Ok, Err, arith, OnOk, cons_option, filter_map, flat_map, flat_map-append, map-append}
 use Rattle.base_lists.proofs.Common.{length-take-le, filter_map-append}
 use Rattle.base_lists.specs.Places.{places}
@@ -13,7 +13,7 @@ use Rattle.dce_graph.specs.Reach.{operands_step, all_operands}
 use Rattle.dce_graph.proofs.Marking.{spread_then}
 use Rattle.dce_graph.proofs.Steps.{done_more}
 
--- two walks one after the other, the second of which may fail
+-- Two walks in sequence meet the points of both. The second may fail.
 pub then_ok : {A E : Type 0} (r : Result A E) (a b c : Search) (ps qs all : List Point) → all ≡ ps ++ qs → Spread a ps b → OnOk r (Spread b qs c) → OnOk r (Spread a all c)
 then_ok (Ok x) a b c ps qs all e f g = rw e (spread_then a b c ps qs f g)
 then_ok (Err x) a b c ps qs all e f g = tt
@@ -64,7 +64,7 @@ place_more p test xs i x lt is =
 
 -- ---- what an instruction names ----
 
--- its own operands, and those of the instructions inside it
+-- The operands of an instruction are its own and those of the instructions inside it.
 operands_inside : (i : Instr) → all_operands i ≡ operands_of i ++ body_operands (held (out-Instr i))
 operands_inside i =
     fold_out-Instr (List Operand) operands_step i
@@ -96,7 +96,7 @@ of_If i ty body other e =
     ∙ ap (λ ps. filter_map operand_point (operands_of i) ++ ps) (body_both body other)
     ∙ sym (append_assoc (filter_map operand_point (operands_of i)) (body_points body) (body_points other))
 
--- two operands, either of which may be missing
+-- The points of two optional operands are those of the first and then those of the second.
 pub listed_both : (all : Operands) (os : List Operand) → listed all ≡ os → filter_map operand_point os ≡ filter_map operand_point (cons_option all.first []) ++ filter_map operand_point (cons_option all.second [])
 listed_both all os e = ap (filter_map operand_point) (sym e) ∙ by all.first all.second
   where

@@ -1,4 +1,4 @@
--- Marks that are exactly on what is reached are closed.
+-- Marks on exactly what is reached are closed.
 use Rattle.base_lists.proofs.Common.{◌≡◌, ◌∙◌, ap, ap₂, sym, subst, refl, ℕ, zero, suc, ◌+◌, ◌<◌, List, [], ◌∷◌, map, length, Option, Some, None, Bool, true, false, ◌&&◌, ⊎_elim, nat_lt, arith, slice_get, true≢false, Contains, option_map, cons_option, flat_map, list_all, ltb-true, lt-ltb}
 use Rattle.base_lists.proofs.Common.{length-map, list_all-append, Contains-append_left, Contains-append_right, Contains-append_cases, slice_get_within, same_tests, list_all_each, list_all_from, kept_is, place_back, place_there, places_many, length-numbers, map_at, map_from, append_at_left}
 use Rattle.base_lists.proofs.Common.{append_right, append_from, there_contains}
@@ -38,7 +38,7 @@ use Rattle.dce_reach_proof.proofs.Points.{has, contains_joined, contains_chosen,
 
 -- ---- imports ----
 
--- an import has one index space
+-- An import adds to one index space only.
 one_kind : (d : ImportDesc) (s t : Space) → same_space s (space_of_import d) ≡ true → same_space t (space_of_import d) ≡ true → s ≡ t
 one_kind d s t h k = grind arith
 
@@ -48,7 +48,7 @@ no_other d s h k = grind arith
 stays_too : (d : ImportDesc) (s : Space) → same_space s (space_of_import d) ≡ true → stays_imported s ≡ true → stays_imported (space_of_import d) ≡ true
 stays_too d s h k = grind arith
 
--- whether a point is no import
+-- Whether a point is something other than an import.
 abbrev no_import : Point → Bool
 no_import (Import i) = false
 no_import p = true
@@ -61,7 +61,7 @@ const_no_import (const.Func f) = refl
 const_no_import (const.Global x) = refl
 
 module _ (m : Module) where
-  -- a map with an entry for each index that is there
+  -- The map with an entry for each index that exists.
   abbrev pub spaces : Remap
   spaces = record {
     types = numbers 0 (length m.types);
@@ -180,7 +180,7 @@ module _ (g : Graph) (m : Module) (r : Reached) (exact : AreExact g m r) (inside
   marked_stays ElementSegments i h = refl
   marked_stays DataSegments i h = refl
 
-  -- the points that a body names pass where the operands that are there do
+  -- All points that a body names pass a test if each operand with an index that exists passes it.
   all_pass : (test : Point → Bool) → ((s : Space) (i : ℕ) → with_entry (spaces m) s i ≡ true → point_passes test (point_of s i) ≡ true) →
       (body : List Instr) → ListLayers (LayerNamesOnly (with_entry (spaces m))) body → list_all test (body_points body) ≡ true
   all_pass test follows body h =
@@ -314,7 +314,8 @@ module _ (g : Graph) (m : Module) (r : Reached) (exact : AreExact g m r) (inside
   fails : {A : Type 0} (ps : List Point) (n : ℕ) → list_all no_import ps ≡ true → Contains ps (Import n) → A
   fails ps n h c = absurd (true≢false (sym (none_fails no_import ps (Import n) h c)))
 
-  -- an import is a root, or reached from what it adds to the index space of functions or of globals
+  -- A marked import is a root, or it is reached from the entry that it adds to the index space of
+  -- functions or of globals.
   data Source (n : ℕ) : Type 0 where
     rooted : (x : ModuleImport) → slice_get m.imports n ≡ Some x → stays_imported (space_of_import x.desc) ≡ true → Source n
     by_func : (i : ℕ) → slice_get (imports_into Functions m.imports) i ≡ Some n → marked r (Func i) ≡ true → Source n
@@ -428,7 +429,7 @@ module _ (g : Graph) (m : Module) (r : Reached) (exact : AreExact g m r) (inside
       by (by_func j at e) = conflict Globals Functions n (placed Globals i n h) (placed Functions j n at) (λ z. cc)
       by (by_global j at e) = ap (is_marked k.globals) (places_apart (has_kind Globals) m.imports 0 i j n h at) ∙ e
 
-  -- imports of tables and memories are roots
+  -- Imports of tables and of memories are roots, so they are always marked.
   always_imported : (s : Space) (i n : ℕ) → slice_get (imports_of s m) i ≡ Some n → stays_imported s ≡ true → is_marked k.imports n ≡ true
   always_imported s i n h stay =
       let p = placed s i n h in

@@ -1,4 +1,4 @@
--- What lists of points have in them, and the points that a body names.
+-- The elements of lists of points, and the points that a body names.
 use Rattle.base_lists.proofs.Common.{◌≡◌, ◌∙◌, ap, ap₂, sym, refl, ℕ, zero, suc, List, [], ◌∷◌, ◌++◌, Option, Some, None, Bool, true, ◌&&◌, slice_get, map, Contains, cons_option, flat_map, list_all, list_all-append, Contains-append_left, Contains-append_right, slice_get-get_or, left_true}
 use Rattle.base_lists.proofs.Common.{list_all_each, Has, there_contains}
 use Rattle.std.proofs.Common.{filter_map}
@@ -28,7 +28,6 @@ contains_chosen {A} {B} f (z ∷ zs) (suc n) x y e h = by (f z) (contains_chosen
     by None c = c
     by (Some w) c = Contains-append_right (w ∷ []) (filter_map f zs) y c
 
--- all pass the test, so that what fails it is not among them
 pub none_fails : {A : Type 0} (test : A → Bool) (xs : List A) (x : A) → list_all test xs ≡ true → Contains xs x → test x ≡ true
 none_fails test xs x h c = let p = has xs x c in list_all_each test xs h p.0 x p.1
 
@@ -50,7 +49,7 @@ all_chosen {A} {B} test f (x ∷ xs) h = by (f x) (h x) (all_chosen test f xs h)
 
 -- ---- what a body names ----
 
--- the point passes, if there is one
+-- An optional point passes a test if there is none or if the point passes it.
 abbrev pub point_passes : (Point → Bool) → Option Point → Bool
 point_passes test None = true
 point_passes test (Some p) = test p
@@ -85,6 +84,6 @@ module _ (test : Point → Bool) where
     every [] = tt
     every (i ∷ is) = (by_held Alike inside i, every is)
 
-    -- all points that a body names pass where its operands do
+    -- All points that a body names pass a test exactly if the operands of the body do.
     pub body_passes : (is : List Instr) → list_all test (body_points is) ≡ all_operands_pass passes is
     body_passes is = operands_chosen test (body_operands is) ∙ lists is (every is)

@@ -20,15 +20,15 @@ use Rattle.dce_sweep_spec.specs.Closed.{AreClosed}
 use Rattle.base_kept.proofs.Laws.{kept_from, kept_map, kept_take, kept_contained, moved}
 use Rattle.dce_sweep_proof.proofs.Spaces.{map_same, funcs_are, globals_are, imported_globals_are, tables_are, memories_are, elem_types_are}
 
--- a constant expression that reads only what stays imported keeps its type
+-- A constant expression that reads only globals that stay imported keeps its type.
 abbrev pub ConstantsAreKept : Type 0
 ConstantsAreKept = (m : Remap) (kept : Indices) (t u : Module) (e : ConstExpr) → TreesAgree m kept t u → ConstNamesOnly kept e → ReadsImport m u e → ConstComesFrom t u e (new_const m e)
 
--- what a mapped list has at a place, and of what it is
+-- An element of a mapped list is the image of the element at the same place.
 new_at : {A B : Type 0} (f : A → B) (xs : List A) (i : ℕ) → i < length (map f xs) → (x : A) × (slice_get xs i ≡ Some x) × (slice_get (map f xs) i ≡ Some (f x))
 new_at f xs i lt = let e = length-map xs f in let x = slice_get_there xs i (omega (arith, lt, e)) in (x.0, x.1, map_at f xs i x.0 x.1)
 
--- an item that is kept was one
+-- An item that is kept of an element segment is an item of that segment.
 pub item_there : (k : Marks) (mode : ElemMode) (items : List ConstExpr) (p : ℕ) (e : ConstExpr) → slice_get (kept_items k mode items) p ≡ Some e → (q : ℕ) × (slice_get items q ≡ Some e)
 item_there k (elem.Active table offset) items p e h = (p, h)
 item_there k elem.Passive items p e h = (p, h)
@@ -43,7 +43,7 @@ module _ (k : Marks) (m : Module) (c : AreClosed k m) (holds : ItemsHold m) wher
 
   -- ---- what an index that is kept comes from ----
 
-  -- an index below the length of a list that stays as it is
+  -- An identity map has the index of each element of a list that is no longer than the map.
   stays_at : {A : Type 0} (n i : ℕ) (xs : List A) (x : A) → length xs ≤ n → slice_get xs i ≡ Some x → slice_get xs (slice_index (numbers 0 n) i) ≡ Some x
   stays_at n i xs x le e = let lt = slice_get_within xs i x e in ap (slice_get xs) (numbers_index n i (omega (arith, lt, le))) ∙ e
 
@@ -77,7 +77,8 @@ module _ (k : Marks) (m : Module) (c : AreClosed k m) (holds : ItemsHold m) wher
   -- ---- constant expressions ----
 
   module _ (law : ConstantsAreKept) where
-    -- a constant expression with a type reads an import (section 3.3.10), and what is read stays imported
+    -- A constant expression that has a type reads only an imported global (section 3.3.10), and the
+    -- global that it reads stays imported.
     reads : (e : ConstExpr) (ty : ValType) → ConstNamesOnly (stays k) e → const_type m e ≡ Some ty → ReadsImport r u e
     reads (const.I32 v) ty h e = tt
     reads (const.I64 v) ty h e = tt
@@ -118,7 +119,7 @@ module _ (k : Marks) (m : Module) (c : AreClosed k m) (holds : ItemsHold m) wher
     import_named (im.Memory l) = tt
     import_named (im.Global g) = tt
 
-    -- an export of what is left has the name of none before it
+    -- An export of what is left has a name that no export before it has.
     fresh : (j place : ℕ) (e : Export) → kept_before k.exports place ≡ j → (Contains (map (λ x. x.name) (take place m.exports)) e.name → ⊥) → Contains (map (λ x. x.name) (take j u.exports)) e.name → ⊥
     fresh j place e goes new h =
         let xs = kept k.exports m.exports in

@@ -13,7 +13,7 @@ use Rattle.dce_sweep_spec.specs.Swept.{defined_funcs, defined_globals, is_kept_r
 use Rattle.dce_sweep_spec.specs.Closed.{AreClosed}
 use Rattle.base_kept.proofs.Laws.{kept_from}
 
--- a map that is as long as each index space has an entry for each index that a valid module names
+-- A map that is as long as each index space has an entry for each index that a valid module names.
 abbrev pub EntriesAreThere : Type 0
 EntriesAreThere = (m : Remap) (t : Module) → IsValid t → Covers m t → IsTrue (fits_tree m t)
 

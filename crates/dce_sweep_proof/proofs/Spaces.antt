@@ -44,7 +44,7 @@ module _ (k : Marks) (m : Module) (c : AreClosed k m) where
       let all = c.globals_many in
       kept_chosen (has_kind Globals) (λ i. global_of i.desc) (grind arith) k.imports k.globals m.imports 0 c.imports_many (omega (arith, many, all)) (λ i n e. c.imported Globals i n (e ∙ ap Some (same_place n)))
 
-  -- all tables and memories are kept
+  -- All imported tables and memories are kept.
   all_imported : {B : Type 0} (space : Space) (f : Import → Option B) → ((i : Import) → is_some (f i) ≡ has_kind space i) → ((i : ℕ) → stays k space i ≡ true) → filter_map f (kept k.imports m.imports) ≡ filter_map f m.imports
   all_imported space f kinds all =
       let counted = places_many (has_kind space) f m.imports kinds 0 in

@@ -1,4 +1,5 @@
--- What is left of a valid module is valid, a u32 can count what it has, and it has no memory more.
+-- What is left of a valid module is valid, a u32 can count what it has, and it has no more memories
+-- than the module.
 use Rattle.base_lists.proofs.Common.{◌≡◌, sym, subst, ℕ, ◌+◌, ◌^◌, ◌<◌, ◌≤◌, List, [], ◌∷◌, length, None, arith, length-append}
 use Rattle.wasm_tree_spec.specs.Prelude.{Module, IsBounded}
 use Rattle.wasm_valid.specs.Prelude.{IsSingle, IsValid, ItemsHold, ValidWhereItemsHold}
@@ -15,7 +16,7 @@ use Rattle.dce_sweep_proof.proofs.Spaces.{memories_are}
 use Rattle.dce_sweep_proof.proofs.Bounds.{kept_bounded}
 use Rattle.dce_sweep_proof.proofs.ComesFrom.{ConstantsAreKept, agree, each_stands}
 
--- what the laws below say
+-- The laws of other crates that these lemmas use.
 pub record Laws : Type 0 where
   pub items : ValidWhereItemsHold
   pub constants : ConstantsAreKept

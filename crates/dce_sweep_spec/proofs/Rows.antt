@@ -43,7 +43,8 @@ fixed = record { ty = valt.I32; mutable = false }
 
 -- ---- a module as a linker writes it ----
 
--- The functions are log, which is imported, ctors, init, twice and run, and the global is the stack pointer. Run calls log, and twice through the table.
+-- The functions are `log`, which is imported, `ctors`, `init`, `twice` and `run`. The global is the
+-- stack pointer. The function `run` calls `log`, and it calls `twice` through the table.
 abbrev run_body : List Instr
 run_body = i.LocalGet 0 ∷ i.Call 0 ∷ i.LocalGet 0 ∷ i.I32Const (pos 1) ∷ i.CallIndirect 1 0 ∷ []
 
@@ -67,7 +68,8 @@ linked = record {
   datas = record { mode = «data».Active 0 (const.I32 (pos 1024)); bytes = 104 ∷ 105 ∷ [] } ∷ [];
 }
 
--- the memory and run are reached; twice is kept because an active segment names it
+-- The memory and `run` are reached. The function `twice` is kept because an active segment names
+-- it.
 abbrev run_reached : Marks
 run_reached = record { exports = true ∷ false ∷ true ∷ []; imports = true ∷ []; funcs = true ∷ false ∷ false ∷ true ∷ true ∷ []; globals = false ∷ [] }
 
@@ -88,7 +90,8 @@ nothing_is_declared = search (rules, the_lemmas)
 
 -- ---- a function that its export alone declared ----
 
--- the first defined function calls the import and names the third, which no element segment has, by `ref.func`
+-- The first defined function calls the import and names the third, which is in no element segment,
+-- by `ref.func`.
 abbrev called_back : Module
 called_back = record empty {
   types = nothing ∷ [];
@@ -112,12 +115,12 @@ segment e = record empty { types = nothing ∷ []; funcs = func 0 [] ∷ func 0 
 abbrev second_func_reached : Marks
 second_func_reached = record { exports = true ∷ []; imports = []; funcs = false ∷ true ∷ []; globals = [] }
 
--- only a function that is kept stays declared, by its new index
+-- A declarative segment keeps only references to functions that are kept, by their new indices.
 one_item_stays : (swept second_func_reached (segment (record { mode = elem.Declarative; ty = func_ref; items = const.Func 0 ∷ const.Null func_ref ∷ const.Func 1 ∷ [] }))).elems ≡ declaring (0 ∷ []) ∷ []
 unfolding swept
 one_item_stays = refl
 
--- an emptied segment keeps its place and its type
+-- A segment of which no item is left keeps its place and its type.
 none_stays : (swept second_func_reached (segment (record { mode = elem.Declarative; ty = func_ref; items = const.Func 0 ∷ [] }))).elems ≡ declaring [] ∷ []
 unfolding swept
 none_stays = refl
@@ -126,7 +129,7 @@ no_null_stays : (swept second_func_reached (segment (record { mode = elem.Declar
 unfolding swept
 no_null_stays = refl
 
--- a passive segment stays whole
+-- A passive segment keeps all items.
 all_items_stay : (swept second_func_reached (segment (record { mode = elem.Passive; ty = func_ref; items = const.Null func_ref ∷ const.Func 1 ∷ [] }))).elems ≡ record { mode = elem.Passive; ty = func_ref; items = const.Null func_ref ∷ const.Func 0 ∷ [] } ∷ []
 unfolding swept
 all_items_stay = refl
@@ -136,7 +139,7 @@ all_items_stay = refl
 abbrev global : ConstExpr → GlobalDef
 global init = record { ty = fixed; init = init }
 
--- each of two globals is initialised with an import
+-- The initialisers of two globals each read an imported global.
 abbrev reading : Module
 reading = record empty { imports = import 97 (im.Global fixed) ∷ import 98 (im.Global fixed) ∷ []; globals = global (const.Global 0) ∷ global (const.Global 1) ∷ []; exports = export 120 (ex.Global 3) ∷ [] }
 
@@ -149,7 +152,8 @@ its_import_is_kept = refl
 
 -- ---- a start, an import that is removed, and offsets that read a global ----
 
--- of two imported functions and two imported globals the first of each is not reached, nor is the first defined function
+-- The second imported function, the second imported global and the second defined function are
+-- reached, the first ones are not.
 abbrev started : Module
 started = record empty {
   types = nothing ∷ [];

@@ -1,4 +1,5 @@
--- What is allocated for the quiet run, and for the module with one function more in an environment, is related but for what is unknown at first.
+-- The stores that are allocated for the quiet run, and for the module with additional functions in
+-- an environment, are related except for what is unknown at first.
 use Rattle.base_lists.proofs.Common.{◌≡◌, ◌∙◌, sym, ap, subst, refl, ℕ, zero, suc, ◌+◌, ◌<◌, List, [], ◌∷◌, map, length, Bool, true, false, not, Option, Some, None, arith, slice_get, option_and_then, get_or, nat_eq, ◌&&◌, and_from, eq-eqb, not-true, get_or_from_slice_get, same_Some, slice_get_past}
 use Rattle.base_lists.proofs.Common.{slice_get_within, place_there, places_many, numbers_is, all_there_at, all_there_length, and_then_is, append_at_left, append_right, map_at, slice_get_none, slice_get_there, length-map, copies_rel, get_rel, both_at, opt_at, opt_both}
 use Rattle.base_lists.specs.Members.{is_among}
@@ -29,7 +30,7 @@ place_among_at xs n a p h =
     list_any_at (λ x. nat_eq x.0 a && nat_eq x.1 p) xs n (0, 0) (slice_get_within xs n (a, p) h)
     (ap (λ (x : ℕ × ℕ). nat_eq x.0 a && nat_eq x.1 p) e ∙ and_from (nat_eq a a) (nat_eq p p) (eq-eqb a a refl) (eq-eqb p p refl))
 
--- a global that reads another is among them
+-- A global whose initialiser reads a global is among those that are unknown at first.
 global_unknown : (gs : List GlobalDef) (from j : ℕ) (g : GlobalDef) → slice_get gs j ≡ Some g → reads_global g.init ≡ true → is_among (places (λ g. reads_global g.init) gs from) (from + j) ≡ true
 global_unknown gs from j g h r =
     let xs = places (λ g. reads_global g.init) gs from in
@@ -44,7 +45,7 @@ global_known gs from j n g e h k = by (reads_global g.init) refl
     by false r = refl
     by true r = sym (global_unknown gs from j g h r) ∙ ap (is_among (places (λ g. reads_global g.init) gs from)) (sym e) ∙ not-true _ k
 
--- and so is an item that reads one
+-- An item of an element segment that reads a global is among those that are unknown at first.
 item_unknown : (from : ℕ) (es : List ElemSeg) (j p : ℕ) (e : ElemSeg) (x : ConstExpr) → slice_get es j ≡ Some e → slice_get e.items p ≡ Some x → reads_global x ≡ true →
     (n : ℕ) × (slice_get (unknown_items from es) n ≡ Some (from + j, p))
 item_unknown from [] j p e x h k r = absurd (let q = h in cc)
@@ -79,7 +80,7 @@ item_known es j p e x h k q = by (reads_global x) refl
 -- ---- what is defined ----
 
 module _ (laws : NamingLaws) (env : Environment) (m : Module) (fs : List tree.Func) (i : Inst) (is : IsInst env (one (with_funcs m fs)) 0 (with_funcs m fs) i) where
-  -- where it stands in both
+  -- The place of a definition, and its index in the module and its address in the environment.
   record DefinedBoth (k : Space) (n a : ℕ) : Type 0 where
     place : ℕ
     first_at : n ≡ length (imports_of k m) + place
@@ -94,7 +95,7 @@ module _ (laws : NamingLaws) (env : Environment) (m : Module) (fs : List tree.Fu
       by (imports p at address) = let l = slice_get_within (imports_of k m) n p at in let g = defined m i k w n a r in absurd (omega (arith, l, g))
       by (defines j e low d) = record { place = j; first_at = e; second_at = let z : a ≡ own_count k env + j = omega (arith, d) in z; low = low }
 
-  -- segments have the same address in both
+  -- A segment has the same address in both.
   elem_both : (n a : ℕ) → (R env m fs i is).of ElementSegments n a → (n < length m.elems) × (a ≡ n)
   elem_both n a r = let x = numbers_is (length m.elems) n a (ap (λ l. slice_get l n) (sym is.elems) ∙ named m i ElementSegments n a r) in (x.0, sym x.1)
 
@@ -135,7 +136,7 @@ module _ (laws : NamingLaws) (env : Environment) (m : Module) (fs : List tree.Fu
         (behind (imported_store m).mems quiet.mems n (length (imports_of Memories m)) p.place many p.first_at ∙ ap (λ l. slice_get l p.place) q.mems ∙ x)
         (behind (own_memories env) there.mems a (own_count Memories env) p.place refl p.second_at ∙ ap (λ l. slice_get l p.place) t.mems ∙ x) refl
 
-    -- a global, where the initialiser reads none
+    -- A global has related values in both if its initialiser reads no global.
     global_off : (known : Bool) (g : GlobalDef) (y z : Global) → (known ≡ true → reads_global g.init ≡ false) → global_with (value_in m) g ≡ Some y →
         global_with (value_there env m fs i is) g ≡ Some z → GlobalOff S known y z
     global_off known g y z reads f h =

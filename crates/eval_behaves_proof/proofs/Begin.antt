@@ -1,4 +1,5 @@
--- In an environment that links a module, what the first step makes of its constructors corresponds to what the snapshot is instantiated to.
+-- The store and view after the first step of a module with evaluated constructors correspond to
+-- those after the instantiation of its snapshot, in each environment that links the module.
 use Rattle.base_lists.proofs.Common.{◌≡◌, ◌∙◌, sym, ap, refl, subst, ℕ, List, [], ◌∷◌, ◌++◌, true, false, slice_get, Some, option_and_then, same_Some, and_then_is, all_rel, opt_at, opt_both, right_there}
 use Rattle.wasm_tree_spec.specs.Prelude.{Functions, GlobalDef, Module}
 use Rattle.wasm_valid.specs.Prelude.{IsValid, ItemsHold}
@@ -37,7 +38,7 @@ use Rattle.eval_behaves_proof.proofs.StoreGlobals.{inits_there}
 use Rattle.eval_behaves_proof.proofs.StoreMemories.{are_bytes}
 use Rattle.eval_behaves_proof.proofs.StoresAlike.{stores_alike}
 
--- what the laws below say
+-- The laws of other crates that the lemmas below use.
 pub record Laws : Type 0 where
   pub known : QuietCallsAreKnown
   pub lead : QuietCallsSimulate
@@ -56,7 +57,6 @@ pub record Laws : Type 0 where
   pub declared : DeclaringSegmentsAreAllocated
   pub made : WhatIsInstantiated
 
--- the one instance of a list is the one of an equal list
 same_inst : (i j : Inst) → i ∷ [] ≡ j ∷ [] → i ≡ j
 same_inst i j e = let f = e in cc
 
@@ -106,7 +106,8 @@ module _ (laws : Laws) (env : Environment) (m : Module) (s : State) (name : Text
   related = subst (λ k. StoreRelOff (Run m k) after.end.unknown after.end.store run.machines.begun.store)
       (same_inst run.machines.inst i (same_Some _ _ (sym run.machines.is_inst ∙ b.is_inst))) run.machines.related
 
-  -- what the machine's first step leaves but its store is what the instantiation leaves, without starts
+  -- The result of the machine's first step is that of the instantiation, except for the store, and
+  -- without start functions.
   machines_begun : record b.begun { store = run.machines.begun.store; starts = [] } ≡ run.machines.begun
   machines_begun =
       let from : evaluated_from b.begun b.addresses ≡ Some run.machines.begun = sym (rw (b.is_begun, b.are_addresses) refl) ∙ run.machines.is_begun in

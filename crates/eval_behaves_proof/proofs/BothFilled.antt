@@ -1,4 +1,5 @@
--- The instantiation of the quiet run, and of the module with more functions, if any, in an environment: all segments of the one are copied in the other.
+-- The instantiation of the quiet run, and of the module with additional functions, if any, in an
+-- environment: all segments that the first copies are copied in the second.
 use Rattle.base_lists.proofs.Common.{◌≡◌, ◌∙◌, sym, ap, ap₂, subst, refl, ℕ, suc, ◌+◌, ◌<◌, List, [], ◌∷◌, length, append-nil, Bool, true, false, cond, Option, Some, None, arith, slice_get, option_and_then, nat_lt, same_Some, all_there_at, all_there_length, and_then_is}
 use Rattle.base_lists.specs.Places.{numbers}
 use Rattle.wasm_tree_spec.specs.Prelude.{ElemMode, ElemSeg, DataSeg, Module, memories_of}
@@ -18,13 +19,13 @@ use Rattle.eval_behaves_proof.proofs.InRange.{NamingLaws, each_index}
 use Rattle.eval_behaves_proof.proofs.SegmentsAlike.{CopiedAlike, IsWhole, data_alike, elem_alike, nothing_copied}
 use Rattle.eval_behaves_proof.proofs.Counterparts.{R, value_there}
 
--- the state from which a run in order goes on
+-- A run in order that finishes starts from a finished stage.
 began : {A : Type 0} (f : State → A → Stage) (t : Stage) (xs : List A) (r : State) → in_order f t xs ≡ Finished r → (s : State) × (t ≡ Finished s)
 began f (Finished s) xs r e = (s, refl)
 began f (Stopped x left) xs r e = absurd (let k = e in cc)
 began f (Going s es) xs r e = absurd (let k = e in cc)
 
--- segments that were not copied yet hold what the module says
+-- Segments that are not copied yet have as many items as those of the module.
 abbrev AreWhole : ℕ → List ElemSeg → Store → Type 0
 AreWhole n es s = (k : ℕ) (e : ElemSeg) → slice_get es k ≡ Some e → (y : Elem) → slice_get s.elems (n + k) ≡ Some y → IsWhole e.mode e y
 
@@ -32,7 +33,7 @@ module _ (env : Environment) (m : Module) (fs : List tree.Func) (i : Inst) (is :
   abbrev Alike : State → State → Filled → Type 0
   Alike = CopiedAlike env m fs i is apart
 
-  -- one copy, and then others
+  -- One copy followed by others.
   then_alike : (s r t : State) (f : Filled) (g : Store → Filled) (a : Alike s r f) → Alike r t (g a.store) → Alike s t (and_then f g)
   then_alike s r t f g a b = record { store = b.store; filled = ap (λ f. and_then f g) a.filled ∙ b.filled; related = b.related; funcs = b.funcs ∙ a.funcs; turns = b.turns ∙ a.turns }
 
@@ -65,7 +66,7 @@ module _ (env : Environment) (m : Module) (fs : List tree.Func) (i : Inst) (is :
       (ap (λ t. in_order (with_data m) t (segments_in 0 (own_inst m) (numbers (suc n) (length ds)) ds)) (sym b.1) ∙ h) in
       then_alike s b.0 t _ (λ x. one_by_one (run_data env (one (with_funcs m fs)) (i ∷ [])) x (segments_in 0 i (numbers (suc n) (length ds)) ds)) c rest
 
-  -- all segments
+  -- The copies of all segments.
   segments_alike : (s t : State) (x : Store) → AreWhole 0 m.elems s.store → StoreRelOff (R env m fs i is) s.unknown s.store x → with_segments m s ≡ Finished t →
       Alike s t (segments env (one (with_funcs m fs)) (i ∷ []) x)
   segments_alike s t x whole r h =
@@ -84,7 +85,7 @@ module _ (env : Environment) (m : Module) (fs : List tree.Func) (i : Inst) (is :
 
   -- ---- from what is allocated ----
 
-  -- allocated segments hold what the module says
+  -- Allocated segments have as many items as those of the module.
   whole_at_first : (quiet : Store) → AddsWith (value_in m) m (own_inst m) quiet → AreWhole 0 m.elems (joined_stores (imported_store m) quiet)
   whole_at_first quiet q k e at y h =
       let x = all_there_at (elem_with (value_in m)) m.elems quiet.elems q.elems k e at in
@@ -98,7 +99,7 @@ module _ (env : Environment) (m : Module) (fs : List tree.Func) (i : Inst) (is :
       by elem.Passive items same = tt
       by elem.Declarative items same = tt
 
-  -- both stores once the segments are copied
+  -- Both stores after all segments are copied.
   pub record BothFilled (turns : ℕ) (t : State) (there : Store) : Type 0 where
     pub store : Store
     pub filled : segments env (one (with_funcs m fs)) (i ∷ []) (joined_stores (own_store env) there) ≡ record { store = store; trapped = false }

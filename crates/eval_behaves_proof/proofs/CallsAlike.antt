@@ -1,4 +1,5 @@
--- A quiet call leads the same call of the machine over any store that is related to its own: it ends, in no more steps than a call may make.
+-- A quiet call has a corresponding call of the machine over each store that is related to its own:
+-- that call ends, in no more steps than a call may make.
 use Rattle.base_lists.proofs.Common.{◌≡◌, ◌∙◌, sym, ap, refl, subst, ℕ, suc, ◌+◌, ◌-◌, ◌<◌, ◌≤◌, List, [], ◌∷◌, length, Bool, true, Option, Some, None, arith, slice_get, same_Some}
 use Rattle.base_lists.specs.Members.{is_among}
 use Rattle.wasm_tree_spec.specs.Prelude.{Space, Functions, ValType, RefType, Module}
@@ -18,7 +19,7 @@ use Rattle.eval_behaves_proof.specs.Worlds.{all_called, called_to_end, most_step
 use Rattle.eval_behaves_proof.proofs.MachineCalls.{ends_after, ends_in_more, goes_within, known_go_on}
 use Rattle.eval_behaves_proof.proofs.QuietEnds.{never, over}
 
--- the call from here comes to such an end, in so many steps
+-- The call ends in a related store, and what is not related is unchanged.
 pub record EndsAlike (R : Pairing) (t : State) (x : Store) (o : Option Store) : Type 0 where
   pub after : Store
   pub ends : o ≡ Some after
@@ -29,7 +30,7 @@ module _ (known : QuietCallsAreKnown) (lead : QuietCallsSimulate) (agree : Steps
   abbrev R : Pairing
   R = passed of named []
 
-  -- the last step of related stacks
+  -- The last step of a call: if one of two related stacks ends the call, so does the other.
   last_step : (v : Unknowns) (s t : Store) (vs : List Val) (gs : List Entry) (y : Store) (hs : List Entry) (o : Outcome Next) → ResRel (NextOff R v (Above R [] [])) o (step y hs) → o ≡ Gives (EndsCall vs t gs) →
       (ws : List Val) × (z : Store) × (ks : List Entry) × (step y hs ≡ Gives (EndsCall ws z ks))
   last_step v s t vs gs y hs o r e = go (step y hs) refl (subst (λ p. ResRel (NextOff R v (Above R [] [])) p (step y hs)) e r)
@@ -71,7 +72,8 @@ module _ (known : QuietCallsAreKnown) (lead : QuietCallsSimulate) (agree : Steps
   zeros_alike [] = nil
   zeros_alike (t ∷ ts) = cons (zero_alike t) (zeros_alike ts)
 
-  -- the function at a related address is called to its end, and what is left of turns and functions is there for the next call
+  -- The function at a related address is called to its end. The functions are unchanged, no turns
+  -- are added and no globals become unknown, which the next call requires.
   pub record CalledAlike (s t : State) (x : Store) (a : ℕ) : Type 0 where
     pub ends : EndsAlike R t x (called_to_end x a)
     pub funcs : t.store.funcs ≡ s.store.funcs
@@ -104,7 +106,7 @@ module _ (known : QuietCallsAreKnown) (lead : QuietCallsSimulate) (agree : Steps
   tested s t x a funcs few related f g n is there r None e = opened s t x a funcs few related f g n is there r e
   tested s t x a funcs few related f g n is there r (Some y) e = absurd (never m 1 y.stop y.left t e)
 
-  -- a function of the module and the one at its address
+  -- A call of a function of the module, and of the one at its address.
   pub called_alike : (s t : State) (x : Store) (n a : ℕ) → FuncsOf (own_inst m) s.store.funcs → s.turns ≤ MOST_TURNS → StoreRelOff R s.unknown s.store x → R.of Functions n a → call_end m s n ≡ Finished t → CalledAlike s t x a
   called_alike s t x n a funcs few related h e = go (slice_get s.store.funcs n) (slice_get x.funcs a) refl refl (related.funcs {a = n} {b = a} h (λ p. let k = p in cc)) e
     where
@@ -134,7 +136,8 @@ module _ (known : QuietCallsAreKnown) (lead : QuietCallsSimulate) (agree : Steps
   going_at s es [] t e = let f = e in cc
   going_at s es (n ∷ ns) t e = let f = e in cc
 
-  -- what is unknown at their end was so before
+  -- The result of several calls: they end, and a global that is unknown at the end was unknown
+  -- before.
   pub record AllAlike (s t : State) (x : Store) (o : Option Store) : Type 0 where
     pub ends : EndsAlike R t x o
     pub was : (b : ℕ) → is_among t.unknown.globals b ≡ true → is_among s.unknown.globals b ≡ true
@@ -142,7 +145,7 @@ module _ (known : QuietCallsAreKnown) (lead : QuietCallsSimulate) (agree : Steps
   abbrev Alike : State → List ℕ → State → Store → List ℕ → Type 0
   Alike s ns t x addresses = FuncsOf (own_inst m) s.store.funcs → s.turns ≤ MOST_TURNS → StoreRelOff R s.unknown s.store x → called_in_order m (Finished s) ns ≡ Finished t → AllAlike s t x (all_called x addresses)
 
-  -- functions of the module and those at their addresses, one after the other
+  -- Calls of functions of the module, and of those at their addresses, one after the other.
   pub calls_alike : (ns addresses : List ℕ) → ListRel (R.of Functions) ns addresses → (s t : State) (x : Store) → Alike s ns t x addresses
   calls_alike _ _ nil s t x = λ funcs few related e. let same : s ≡ t = cc in
       record {

@@ -1,4 +1,5 @@
--- The same code over two instances is related, where each index that it names denotes addresses in the code relation.
+-- The same code over two instances is related, where each index that it names denotes addresses in
+-- the code relation.
 use Rattle.base_lists.proofs.Common.{ℕ, List, [], ◌∷◌, refl, false, IsTrue}
 use Rattle.base_lists.specs.Every.{Every}
 use Rattle.wasm_tree_spec.specs.Prelude.{Space, Types, Functions, Tables, Memories, Globals, ElementSegments, DataSegments, BlockType, Instr, Row_of-Instr, end_of-Instr, more_of-Instr, items-the_row-Instr, items_shown-the_row-Instr-0, Layers, RowLayers, ListLayers, block_operands, operands}
@@ -13,7 +14,7 @@ use Rattle.index_remap.proofs.NotOpaque.{operands_follow}
 use Rattle.index_remap_proof.specs.Indices.{Indices, LayerNamesOnly}
 
 module _ (R : Pairing) (i j : Inst) where
-  -- the index denotes addresses in the code relation, or for equal types, or for nothing in both
+  -- The index denotes addresses in the code relation, or equal types, or nothing in both instances.
   abbrev pub IndexAlike : Space → ℕ → Type 0
   IndexAlike Types n = SameType i j n n
   IndexAlike Functions n = AreIndicesRelated R.named Functions i.funcs j.funcs n n
@@ -31,7 +32,7 @@ module _ (R : Pairing) (i j : Inst) where
   block_alike (bt.Value t) n = value
   block_alike (bt.Index k) n = indexed n.0
 
-  -- what the layer holds is related
+  -- The code inside the layer is related to itself.
   abbrev Held : Instr-F Instr → Type 0
   Held (Instr-F.Block b c) = CodeRel R i j c c
   Held (Instr-F.Loop b c) = CodeRel R i j c c
@@ -99,6 +100,6 @@ module _ (R : Pairing) (i j : Inst) where
   code_alike [] h = end
   code_alike (o ∷ os) h = then (one_alike o h.0) (code_alike os h.1)
 
-  -- so it is where code names only indices of a set that are alike
+  -- Code is related if it names only indices of a set, and each of them denotes related addresses.
   pub kept_alike : (kept : Indices) → ((k : Space) (n : ℕ) → IsTrue (kept k n) → IndexAlike k n) → (os : List Instr) → ListLayers (LayerNamesOnly kept) os → CodeRel R i j os os
   kept_alike kept alike os h = code_alike os (operands_follow (λ o. IsTrue (kept o.space o.index)) (λ o. IndexAlike o.space o.index) (λ o. alike o.space o.index) os h)

@@ -1,4 +1,4 @@
--- Constants of values: in an instance of the snapshot they have these values again.
+-- Constants of values: in an instance of the snapshot, the constant of a value has a related value.
 use Rattle.base_lists.proofs.Common.{◌≡◌, ◌∙◌, ap, subst, ℕ, ◌<◌, ◌^◌, Option, Some, None, inl, inr, arith, ℤ, cases_lt, lt-ltb, le-ltb}
 use Rattle.std.proofs.Math.Nat.{mod-eq_of_lt}
 use Rattle.wasm_tree_spec.specs.Prelude.{Functions, RefType, ConstExpr}
@@ -18,14 +18,14 @@ unsigned_again_64 n lt = elim (cases_lt n (2 ^ 63)) [
 ]
 
 module _ (R : Pairing) (value : ConstExpr → Option Val) (i32 : (v : ℤ) → value (const.I32 v) ≡ Some (Num W32 (wrapped 32 v))) (i64 : (v : ℤ) → value (const.I64 v) ≡ Some (Num W64 (wrapped 64 v))) (null : (t : RefType) → value (const.Null t) ≡ Some (Ref (null_of t))) where
-  -- a number fits its width, and a function denotes its address
+  -- A number fits its width, and the index of a function denotes a related address.
   abbrev pub Stands : Val → Type 0
   Stands (Num W32 n) = n < 2 ^ 32
   Stands (Num W64 n) = n < 2 ^ 64
   Stands (Ref (FuncRef (Some f))) = (a : ℕ) × (value (const.Func f) ≡ Some (Ref (FuncRef (Some a)))) × R.of Functions f a
   Stands (Ref _) = Unit {0}
 
-  -- so the constant of a value has a value that is related to it
+  -- The constant of such a value has a value that is related to it.
   pub constant_stands : (v : Val) (e : ConstExpr) → Stands v → constant v ≡ Some e → (w : Val) × (value e ≡ Some w) × ValRel R v w
   constant_stands (Num W32 n) e h is =
       let same : const.I32 (signed 32 n) ≡ e = cc in

@@ -1,4 +1,5 @@
--- The segments of a memory's contents are copied over zeros: then the bytes stand there.
+-- The segments of a memory's contents: each byte that is not zero is in one of them, and copying
+-- one writes its bytes.
 use Rattle.base_lists.proofs.Common.{◌≡◌, ◌∙◌, sym, ap, refl, ℕ, zero, suc, ◌+◌, ◌-◌, ◌<◌, ◌≤◌, List, [], ◌∷◌, ◌++◌, length, take, drop, Bool, true, false, cond, not, Option, Some, ◌⊎◌, inl, inr, arith, slice_get, get_or, nat_eq, cases_lt, eqb-true, length-drop, length-take-le, length-append}
 use Rattle.base_lists.proofs.Common.{get_or-drop, get_or-take, get_or_append_left, slice_get-get_or, place_there, split_take}
 use Rattle.std.proofs.lemmas.List.{get_or-append-add}
@@ -14,11 +15,12 @@ written {A = A} xs place ys fits =
     let rest : length (drop place xs) ≡ length xs - place = length-drop place xs in
     rw (split_take place xs (omega (arith, fits)), split_take (length ys) (drop place xs) (omega (arith, fits, rest))) refl
 
--- both lists have the same at a place, or both have nothing there, which counts as 0
+-- Both lists have the same number at a place, where a place beyond the end counts as 0.
 abbrev pub Agrees : (xs ys : List ℕ) → ℕ → Type 0
 Agrees xs ys i = get_or xs i 0 ≡ get_or ys i 0
 
--- a part of the bytes, written at its place over a list that is as long: it agrees with the bytes where it did before, and where they were written
+-- The result of writing a part of the bytes at its place over a list of the same length: it agrees
+-- with the bytes wherever the list did before, and wherever the part was written.
 pub record Written (covered : ℕ → Type 0) (xs bytes : List ℕ) (o : Option (List ℕ)) : Type 0 where
   pub now : List ℕ
   pub is : o ≡ Some now
@@ -98,7 +100,7 @@ module _ (xs bytes : List ℕ) (place count : ℕ) (same : length xs ≡ length 
 
 -- ---- the places of bytes that are not zero, and stretches ----
 
--- from the least on, below the bound, each above the one before it
+-- The numbers are at least `least` and below the bound, and each is greater than the one before it.
 abbrev pub Ascending : (bound least : ℕ) → List ℕ → Type 0
 Ascending bound least [] = Unit {0}
 Ascending bound least (n ∷ ns) = (least ≤ n) × (n < bound) × Ascending bound (suc n) ns
@@ -115,7 +117,7 @@ places_ascend (x ∷ xs) from bound le = by (is_nonzero x) (places_ascend xs (su
     by true h = (omega arith, omega (arith, le), h)
     by false h = ascend_less bound from (suc from) (places is_nonzero xs (suc from)) (omega arith) h
 
--- in one of these stretches
+-- The place is in one of these stretches.
 pub data Covered (i : ℕ) : List Stretch → Type 0 where
   here : {s : Stretch} {ss : List Stretch} → s.first ≤ i → i ≤ s.last → Covered i (s ∷ ss)
   behind : {s : Stretch} {ss : List Stretch} → Covered i ss → Covered i (s ∷ ss)
@@ -133,7 +135,8 @@ in_bounds bound first last (n ∷ ns) le lt h =
     by true longer other = longer
     by false longer other = (le, lt, other)
 
--- a place between the first and the last of the stretch that is being made, or one of the places behind
+-- A place is covered if it is in the stretch that is being extended, or among the later places of
+-- nonzero bytes.
 covers : (bound first last : ℕ) (rest : List ℕ) → first ≤ last → Ascending bound (suc last) rest → (i : ℕ) → ((first ≤ i) × (i ≤ last)) ⊎ ((k : ℕ) × (slice_get rest k ≡ Some i)) → Covered i (stretches_from first last rest)
 covers bound first last [] le h i (inl q) = here q.0 q.1
 covers bound first last [] le h i (inr q) = absurd (let e = q.1 in cc)
@@ -171,7 +174,7 @@ no_other n e = eqb-true n 0 (by (nat_eq n 0) e)
     by true e = refl
     by false e = sym e
 
--- a byte that is not zero stands in one of them
+-- A byte is zero, or its place is in one of the stretches.
 pub zero_or_covered : (bytes : List ℕ) (i : ℕ) → i < length bytes → (get_or bytes i 0 ≡ 0) ⊎ Covered i (stretches bytes)
 zero_or_covered bytes i lt = by (is_nonzero (get_or bytes i 0)) refl
   where

@@ -1,4 +1,4 @@
--- The memory of a snapshot: its contents' segments, copied over zeros, give the bytes.
+-- The memory of a snapshot: the segments of its contents, copied over zeros, give the bytes.
 use Rattle.base_lists.proofs.Common.{◌≡◌, ◌∙◌, sym, ap, refl, ℕ, zero, suc, ◌+◌, ◌-◌, ◌<◌, ◌≤◌, ◌^◌, List, [], ◌∷◌, map, length, Option, Some, inl, inr, arith, slice_get, ℤ, get_or, cases_lt, eq-eqb, lt-ltb, le-ltb, ext_get_or}
 use Rattle.std.proofs.Math.Nat.{mod-eq_of_lt}
 use Rattle.block_pool.specs.Pages.{part}
@@ -70,7 +70,7 @@ module _ (value : ConstExpr → Option Val) (i : Inst) (memory a : ℕ) (there :
         ];
       }
 
-  -- the contents of a memory, copied over as many zeros
+  -- The segments of the contents of a memory, copied over as many zeros, give its bytes.
   pub contents_stand : all_over a (data_copies value i (contents memory bytes)) (copies {A = ℕ} (length bytes) 0) ≡ Some bytes
   contents_stand =
       let w = all_copied (stretches bytes) (copies {A = ℕ} (length bytes) 0) (so_many (length bytes)) (stretches_fit bytes) in

@@ -1,4 +1,5 @@
--- What the element segments of a module and of its snapshot copy into tables, and what is left of them: the same in both, of functions that both have.
+-- The element segments of a module and of its snapshot: both copy the same references into tables
+-- and leave the same segments, and the references are to functions that both have.
 use Rattle.base_lists.proofs.Common.{◌≡◌, ◌∙◌, sym, ap, ap₂, refl, subst, ℕ, suc, List, [], ◌∷◌, ◌++◌, length, Bool, true, false, cond, Option, Some, None, slice_get, same_Some, and_then_is, overwrite_rel, opt_self}
 use Rattle.base_lists.specs.Options.{◌>>=◌}
 use Rattle.wasm_tree_spec.specs.Prelude.{ConstExpr, ElemMode, ElemSeg, Module, tables_of}
@@ -17,7 +18,7 @@ use Rattle.eval_behaves_proof.specs.Worlds.{with_empty_func}
 use Rattle.eval_behaves_proof.proofs.StatesAgree.{R, first_value, second_value, table_shared, value_itself, values_same}
 use Rattle.eval_behaves_proof.proofs.InRange.{below, each_index}
 
--- each item and the mode of each of these segments
+-- The items and the mode of each of these segments name only indices of the module.
 abbrev pub SegmentsName : Module → List ElemSeg → Type 0
 SegmentsName m es = (n : ℕ) (e : ElemSeg) → slice_get es n ≡ Some e →
     ((p : ℕ) (x : ConstExpr) → slice_get e.items p ≡ Some x → ConstNamesOnly (with_entry (each_index m)) x) × ElemModeNamesOnly (with_entry (each_index m)) e.mode
@@ -63,7 +64,7 @@ module _ (constants : ConstantsAloneReadTheEnvironment) (env : Environment) (m :
   copy_same e elem.Passive h k = refl
   copy_same e elem.Declarative h k = refl
 
-  -- what declares references copies nothing
+  -- An element segment that declares references copies nothing, so the copies are the same with it.
   pub copies_same : (address : ℕ) (fs : List ℕ) (es : List ElemSeg) → SegmentsName m es → (xs : List RefVal) →
       all_over address (elem_copies second j (es ++ last_segments fs)) xs ≡ all_over address (elem_copies first i es) xs
   copies_same address [] [] h xs = refl

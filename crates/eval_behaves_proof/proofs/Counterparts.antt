@@ -1,4 +1,6 @@
--- Which indices of a valid module denote addresses in an environment, and what its code and its constant expressions are in both.
+-- Indices, code and constant expressions of a valid module: which indices denote addresses in an
+-- environment, and how code and constant expressions of the quiet run are related to those in the
+-- environment.
 use Rattle.base_lists.proofs.Common.{◌≡◌, ◌∙◌, sym, ap, subst, refl, ℕ, ◌+◌, ◌<◌, ◌≤◌, List, [], ◌∷◌, length, false, Option, Some, arith, slice_get, option_and_then, IsTrue, nat_lt, and_from, eq-eqb, lt-ltb, same_Some, length-numbers, numbers_at, numbers_is, and_then_is, slice_get_there, opt_at}
 use Rattle.base_lists.specs.Places.{numbers}
 use Rattle.wasm_tree_spec.specs.Prelude.{Space, Types, Functions, Tables, Memories, Globals, ElementSegments, DataSegments, ConstExpr, Module, funcs_of, tables_of, memories_of, globals_of}
@@ -24,7 +26,7 @@ module _ (env : Environment) (m : Module) (fs : List tree.Func) (i : Inst) (is :
 
   -- ---- indices ----
 
-  -- how many the module alone has of a space, and the instance has no fewer
+  -- The number of entries of an index space of the module alone.
   abbrev pub many : Space → ℕ
   many Types = length m.types
   many Functions = length (funcs_of m)
@@ -37,7 +39,8 @@ module _ (env : Environment) (m : Module) (fs : List tree.Func) (i : Inst) (is :
   abbrev pub own_addresses : Space → List ℕ
   own_addresses k = addresses_in (own_inst m) k
 
-  -- a space that has addresses
+  -- In the quiet run, each index of the space is its own address, and the instance has at least as
+  -- many addresses.
   pub record HasAddresses (k : Space) : Type 0 where
     pub own : own_addresses k ≡ numbers 0 (many k)
     pub no_fewer : many k ≤ length (addresses_in i k)
@@ -60,7 +63,7 @@ module _ (env : Environment) (m : Module) (fs : List tree.Func) (i : Inst) (is :
   datas_have : HasAddresses DataSegments
   datas_have = record { own = refl; no_fewer = let e = ap length is.datas in let f = length-numbers 0 (length m.datas) in omega (arith, e, f) }
 
-  -- an index names the address that it has
+  -- An index of the module names the address that it has in the instance.
   pub named_at : (k : Space) → own_addresses k ≡ numbers 0 (many k) → (n a : ℕ) → n < many k → slice_get (addresses_in i k) n ≡ Some a → R.named k n a
   named_at k own n a lt h =
       let size = ap length own in
@@ -68,7 +71,7 @@ module _ (env : Environment) (m : Module) (fs : List tree.Func) (i : Inst) (is :
       and_from (nat_lt n (length (own_addresses k))) (is_address (slice_get (addresses_in i k) n) a) (lt-ltb n (length (own_addresses k)) (omega (arith, lt, size, e)))
       (ap (λ o. is_address o a) h ∙ eq-eqb a a refl)
 
-  -- so there is one
+  -- An address that an index names.
   pub record NamedAt (k : Space) (n : ℕ) : Type 0 where
     pub address : ℕ
     pub is_there : slice_get (addresses_in i k) n ≡ Some address
@@ -89,11 +92,11 @@ module _ (env : Environment) (m : Module) (fs : List tree.Func) (i : Inst) (is :
   pub memory_there : (n : ℕ) → n < length (memories_of m) → NamedAt Memories n
   memory_there = there_for Memories mems_have
 
-  -- functions, imported ones too, are related
+  -- An address that a function index names is related to it, also if the function is imported.
   pub func_stands : (n a : ℕ) → R.named Functions n a → R.of Functions n a
   func_stands n a h = relates m i Functions n a refl h
 
-  -- an index of a segment is its address
+  -- The index of a segment is its address.
   pub elem_itself : (n : ℕ) → n < length m.elems → R.named ElementSegments n n
   elem_itself n lt = named_at ElementSegments refl n n lt (ap (λ l. slice_get l n) is.elems ∙ numbers_at 0 (length m.elems) n lt ∙ ap Some (let e : 0 + n ≡ n = omega arith in e))
 
@@ -133,7 +136,7 @@ module _ (env : Environment) (m : Module) (fs : List tree.Func) (i : Inst) (is :
       let related : R.of Functions f y.0 = func_stands f y.0 (named_at Functions refl f y.0 n.0 y.1) in
       subst (λ v. ValRel R v w) (same_Some _ v x.2) (subst (λ w. ValRel R (Ref (FuncRef (Some x.0))) w) (same_Some _ w y.2) (reference (func (some (subst (λ g. R.of Functions g y.0) n.1 related)))))
 
-  -- what reads no global has related values
+  -- A constant expression that reads no global has related values in both.
   pub value_alike : (e : ConstExpr) (v w : Val) → reads_global e ≡ false → value_in m e ≡ Some v → value_there e ≡ Some w → ValRel R v w
   value_alike (const.I32 n) v w r h k = subst (λ v. ValRel R v w) (same_Some (Num W32 (wrapped 32 n)) v h) (subst (λ w. ValRel R (Num W32 (wrapped 32 n)) w) (same_Some _ w k) number)
   value_alike (const.I64 n) v w r h k = subst (λ v. ValRel R v w) (same_Some (Num W64 (wrapped 64 n)) v h) (subst (λ w. ValRel R (Num W64 (wrapped 64 n)) w) (same_Some _ w k) number)
@@ -141,7 +144,7 @@ module _ (env : Environment) (m : Module) (fs : List tree.Func) (i : Inst) (is :
   value_alike (const.Func f) v w r h k = func_ref_alike f v w h k
   value_alike (const.Global x) v w r h k = absurd (let q = r in cc)
 
-  -- and an offset that reads none is the same number
+  -- An offset that reads no global is the same number in both.
   pub offset_stays : (e : ConstExpr) (n : ℕ) → reads_global e ≡ false → option_and_then (num_of W32) (value_in m e) ≡ Some n → option_and_then (num_of W32) (value_there e) ≡ Some n
   offset_stays (const.I32 v) n r h = h
   offset_stays (const.I64 v) n r h = h

@@ -1,4 +1,6 @@
--- What the data segments of a module and of its snapshot copy into memories: nothing into the environment's own, and into the defined one of the snapshot what it is to hold.
+-- The copies that the data segments of a module and of its snapshot make into memories: nothing is
+-- copied into the environment's own memories, and the defined memory of the snapshot receives its
+-- contents.
 use Rattle.base_lists.proofs.Common.{◌≡◌, ◌∙◌, sym, ap, refl, subst, ℕ, suc, ◌+◌, ◌-◌, ◌*◌, ◌^◌, ◌<◌, ◌≤◌, List, [], ◌∷◌, ◌++◌, map, length, false, cond, Option, Some, None, ◌⊎◌, inl, inr, ⊎_elim, arith, slice_get, nat_lt, cases_lt, lt-ltb, ne_eqb, places_many, length-append, slice_get_within}
 use Rattle.base_lists.proofs.Common.{every_at, append_from, map_at, map_from, length-map}
 use Rattle.std.proofs.lemmas.Bool.{true≢false}
@@ -39,7 +41,7 @@ all_elsewhere address (c ∷ cs) xs h = ap (λ o. o >>= all_over address cs) (on
 
 -- ---- what the memory is to hold ----
 
--- the bytes of the one memory that a module defines, if it defines one
+-- The bytes of the memory that a module defines, if it defines one.
 pub record AreBytesOf (m : Module) (bytes : List ℕ) : Type 0 where
   pub none : length m.mems ≡ 0 → bytes ≡ []
   pub size : (l : Limits) → slice_get m.mems 0 ≡ Some l → length bytes ≡ 65536 * l.min
@@ -63,7 +65,7 @@ module _ (env : Environment) (m : Module) (s : State) (name : Text) (names kept 
   abbrev pub own : ℕ
   own = own_count Memories env
 
-  -- the memories that are defined
+  -- A defined memory has the same address in both.
   pub memory_at : (n : ℕ) → n < length m.mems → (slice_get i.mems (place + n) ≡ Some (own + n)) × (slice_get j.mems (place + n) ≡ Some (own + n))
   memory_at n lt =
       let c : length (imports_of Memories m) ≡ place = places_many _ _ m.imports (grind arith) 0 in
@@ -105,7 +107,7 @@ module _ (env : Environment) (m : Module) (s : State) (name : Text) (names kept 
           active_elsewhere address low d x offset (below (length (memories_of m)) x (subst (DataModeNamesOnly (with_entry (each_index m))) e (named.data_modes n d at)).0)
           (made.defined n d at x offset e)
 
-  -- what is the environment's own is not written
+  -- The data segments of the module write no memory of the environment's own.
   pub first_own_stays : (address : ℕ) → address < own → (xs : List ℕ) → all_over address (data_copies first i m.datas) xs ≡ Some xs
   first_own_stays address low xs = all_elsewhere address (data_copies first i m.datas) xs (first_elsewhere address low)
 
@@ -118,7 +120,7 @@ module _ (env : Environment) (m : Module) (s : State) (name : Text) (names kept 
     pub all_is : (snapshot m s (name ∷ names) kept).datas ≡ all
     all_is = (shape m s name names kept).datas
 
-    -- it copies nothing, or to the defined memory
+    -- The copy is empty or goes to the defined memory.
     abbrev CopiesContents : Copy ℕ → Type 0
     CopiesContents c = (c ≡ nothing) ⊎ ((offset : Option ℕ) × (copied : Option (List ℕ)) × (c ≡ contents (slice_get j.mems place) offset copied) × (0 < length m.mems))
 
@@ -146,7 +148,7 @@ module _ (env : Environment) (m : Module) (s : State) (name : Text) (names kept 
     pub second_own_stays : (address : ℕ) → address < own → (xs : List ℕ) → all_over address (data_copies second j all) xs ≡ Some xs
     second_own_stays address low xs = all_elsewhere address (data_copies second j all) xs (λ n c h. goes_elsewhere address low c (goes n c h))
 
-    -- and what is defined is as it is to be
+    -- The data segments of the snapshot give the defined memory its bytes.
     pub second_defined : (l : Limits) → slice_get m.mems 0 ≡ Some l → all_over own (data_copies second j all) (new_memory l).bytes ≡ Some bytes
     second_defined l at =
         let size = are.size l at in

@@ -6,16 +6,17 @@ use Rattle.world_contents_proof.specs.Leaves.{Copy, nothing, contents, over, all
 use Rattle.world_contents_proof.specs.Copies.{Kind, run, runs, IsOf, AreOf}
 
 module _ {C S A : Type 0} (k : Kind C S A) where
-  -- what it goes to is there
+  -- The table or memory to which the copy goes exists.
   abbrev pub GoesSomewhere : Store → Copy A → Type 0
   GoesSomewhere s nothing = Unit {0}
   GoesSomewhere s (contents to offset copied) = (a : ℕ) × (to ≡ Some a) × (a < length (k.holders s))
 
-  -- whatever stands at an address, the copies that go there fit
+  -- The copies that go to an address all fit what is at that address.
   abbrev pub Fit : Store → List (Copy A) → Type 0
   Fit s cs = (a : ℕ) (c : C) → slice_get (k.holders s) a ≡ Some c → (xs : List A) × (all_over a cs (k.held c) ≡ Some xs)
 
-  -- it does not trap, and what is left has as many holders, into which the others fit, and the other segments
+  -- A copy does not trap. The store after it has as many tables or memories, into which the other
+  -- copies fit, and the other segments are unchanged.
   record OneFits (s : Store) (n : ℕ) (c : Copy A) (cs : List (Copy A)) : Type 0 where
     after : Store
     is : run k s n c ≡ record { store = after; trapped = false }
@@ -33,7 +34,7 @@ module _ {C S A : Type 0} (k : Kind C S A) where
     abbrev c : Copy A
     c = contents (Some a) offset copied
 
-    -- what comes to stand there
+    -- The contents at the address after the copy.
     new : (xs : List A) × (over a c (k.held x) ≡ Some xs) × ((ys : List A) × (all_over a cs xs ≡ Some ys))
     new = let r = fits a x x_is in let o = and_then_is (over a c (k.held x)) (all_over a cs) r.0 r.1 in (o.0, o.1, (r.0, o.2))
 

@@ -1,5 +1,6 @@
--- The functions that the quiet run has at first and those at their addresses in an environment are the same: imported ones are the environment's own of equal pair and type,
--- and defined ones have the same code over both instances.
+-- The functions that the quiet run has at first correspond to those at their addresses in an
+-- environment: an imported one is the environment's own function of the same pair and type, and a
+-- defined one has the same code over both instances.
 use Rattle.base_lists.proofs.Common.{◌≡◌, ◌∙◌, sym, ap, ap₂, subst, refl, ℕ, suc, ◌+◌, ◌<◌, List, [], ◌∷◌, ◌++◌, map, length, true, Option, Some, is_some, inl, inr, arith, slice_get, option_and_then, cons_option, filter_map, ltb-true, and_parts, length-append, same_Some, chosen_from, place_of}
 use Rattle.base_lists.proofs.Common.{places_many, length-numbers, all_there_at, and_then_is, append_at_left, append_from, append_right, slice_get_there, all_there_back, length-map, both_at, opt_both}
 use Rattle.std.specs.Prelude.{unwrap_or}
@@ -19,12 +20,13 @@ use Rattle.eval_behaves_proof.proofs.OwnFuncs.{own_found}
 use Rattle.eval_behaves_proof.proofs.Related.{named}
 use Rattle.eval_behaves_proof.proofs.Counterparts.{R, body_alike, value_there}
 
--- what stands so many places behind a list
+-- An element of the second of two lists is found in the joined list, behind the elements of the
+-- first.
 pub behind : {A : Type 0} (xs ys : List A) (n c j : ℕ) → length xs ≡ c → n ≡ c + j → slice_get (xs ++ ys) n ≡ slice_get ys j
 behind xs ys n c j size e = let at : n ≡ length xs + j = omega (arith, size, e) in ap (slice_get (xs ++ ys)) at ∙ append_right xs ys j
 
 module _ (m : Module) where
-  -- an imported function, where its type is there
+  -- The type that an imported function gets if the module does not have its type.
   abbrev none_named : FuncType
   none_named = record { params = []; results = [] }
 

@@ -1,4 +1,5 @@
--- What a valid module names is there: the index is below the number of entries of its space (WebAssembly Core 2.0, section 3.4).
+-- Each index that a valid module names is below the number of entries of its index space
+-- (WebAssembly Core 2.0, section 3.4).
 use Rattle.base_lists.proofs.Common.{ℕ, ◌<◌, ◌≤◌, length, arith, IsTrue, nat_lt, ltb-true, length-numbers}
 use Rattle.base_lists.specs.Places.{numbers}
 use Rattle.wasm_tree_spec.specs.Prelude.{Module, funcs_of, tables_of, memories_of, globals_of}
@@ -9,7 +10,7 @@ use Rattle.index_remap_proof.specs.Indices.{TreeNamesOnly, with_entry}
 use Rattle.index_remap_proof.specs.Trees.{Covers}
 use Rattle.world_simulation.specs.Prelude.{IndicesNameImportsOrDefinitions, SpacesAreImportsAndDefinitions}
 
--- an entry for each index
+-- The renumbering that maps each index of the module to itself.
 abbrev pub each_index : Module → Remap
 each_index m = record {
   types = numbers 0 (length m.types);
@@ -35,7 +36,8 @@ all_covered m = record {
   datas = as_many (length m.datas);
 }
 
--- the laws of `renumbering_keeps_typing` of index_remap_proof, and of `index_spaces_list_imports_and_definitions` of world_simulation
+-- The laws of `renumbering_keeps_typing` of index_remap_proof, and of
+-- `index_spaces_list_imports_and_definitions` of world_simulation.
 pub record NamingLaws : Type 0 where
   pub entries : (r : Remap) (t : Module) → IsValid t → Covers r t → IsTrue (fits_tree r t)
   pub named : (r : Remap) (t : Module) → IsTrue (fits_tree r t) → TreeNamesOnly (with_entry r) t
@@ -45,6 +47,6 @@ pub record NamingLaws : Type 0 where
 pub names_there : NamingLaws → (m : Module) → IsValid m → TreeNamesOnly (with_entry (each_index m)) m
 names_there laws m valid = laws.named (each_index m) m (laws.entries (each_index m) m valid (all_covered m))
 
--- so it is below the number of entries
+-- An index that has an entry is below the number of entries.
 pub below : (size n : ℕ) → IsTrue (nat_lt n (length (numbers 0 size))) → n < size
 below size n h = let l = ltb-true n (length (numbers 0 size)) h in let e = length-numbers 0 size in omega (arith, l, e)

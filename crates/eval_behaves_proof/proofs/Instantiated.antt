@@ -1,4 +1,5 @@
--- Where an environment links a module whose evaluation is quiet, both are instantiated to what is related, and the functions to be called correspond.
+-- In an environment that links a module whose evaluation is quiet, the instantiations of the quiet
+-- run and of the machine leave related stores, and the functions to be called correspond.
 use Rattle.base_lists.proofs.Common.{◌≡◌, ◌∙◌, ap, subst, refl, ℕ, suc, ◌<◌, List, [], ◌∷◌, ◌++◌, map, length, Bool, true, false, cond, Option, Some, None, is_some, inl, inr, arith, slice_get, IsTrue, same_Some, chosen_from, and_then_is, is_some_there, append_from, map_from, slice_get_there}
 use Rattle.base_lists.proofs.Common.{append_rel}
 use Rattle.wasm_tree_spec.specs.Prelude.{Functions, Export, ExportDesc, ImportDesc, Module, func_of, funcs_of, imported_funcs}
@@ -42,7 +43,7 @@ module _ (m : Module) (names : TreeNamesOnly (with_entry (each_index m)) m) wher
   exported_func (ex.Memory n) f h e = absurd (let k = e in cc)
   exported_func (ex.Global n) f h e = absurd (let k = e in cc)
 
-  -- what is found under a name names an index that is there, where all exports do
+  -- The export found under a name names an index in range if all exports do.
   found_named : (es : List Export) (name : Text) (d : ExportDesc) → ((n : ℕ) (e : Export) → slice_get es n ≡ Some e → ExportNamesOnly (with_entry (each_index m)) e.desc) → export_named es name ≡ Some d →
       ExportNamesOnly (with_entry (each_index m)) d
   found_named [] name d each h = absurd (let k = h in cc)
@@ -63,7 +64,7 @@ module _ (m : Module) (names : TreeNamesOnly (with_entry (each_index m)) m) wher
   pub started_func : (f : ℕ) → m.start ≡ Some f → f < length (funcs_of m)
   started_func f h = below (length (funcs_of m)) f (names.start f h)
 
-  -- where a function is there so is a type
+  -- A module that imports a function has a type.
   imported_type : (d : ImportDesc) (ty : ℕ) → ImportNamesOnly (with_entry (each_index m)) d → func_of d ≡ Some ty → ty < length m.types
   imported_type (im.Func u) ty h e = subst (λ n. n < length m.types) (same_Some u ty e) (below (length m.types) u h)
   imported_type (im.Table t) ty h e = absurd (let k = e in cc)
@@ -87,7 +88,7 @@ module _ (m : Module) (names : TreeNamesOnly (with_entry (each_index m)) m) wher
       by false e k = absurd (let q = k in cc)
 
   module _ (env : Environment) (fs : List tree.Func) (i : Inst) (is : IsInst env (one (with_funcs m fs)) 0 (with_funcs m fs) i) where
-    -- their addresses
+    -- The addresses of functions of the module, which are related to their indices.
     pub record HaveAddresses (ns : List ℕ) : Type 0 where
       pub addresses : List ℕ
       pub are : all_there (slice_get i.funcs) ns ≡ Some addresses

@@ -1,4 +1,5 @@
--- The constants of known globals: in the instance of the snapshot they have the values that the machine's run left.
+-- The constants of known globals: in the instance of the snapshot they have the values that the
+-- machine's run left.
 use Rattle.base_lists.proofs.Common.{◌≡◌, ◌∙◌, sym, ap, refl, subst, ℕ, ◌<◌, List, [], length, Bool, true, false, cond, Option, Some, None, arith, slice_get, IsTrue, ◌∷◌, ℤ, nat_lt, and_parts, ltb-true, same_Some, length-numbers, and_then_is}
 use Rattle.base_lists.specs.Options.{◌>>=◌}
 use Rattle.wasm_tree_spec.specs.Prelude.{Functions, RefType, ConstExpr, Module, funcs_of}
@@ -19,7 +20,7 @@ use Rattle.eval_behaves_proof.proofs.Related.{names as names_address}
 use Rattle.eval_behaves_proof.proofs.Constants.{Stands, constant_stands}
 use Rattle.eval_behaves_proof.proofs.Shared.{to_itself}
 
--- a value in range has a constant
+-- An expressible value has a constant.
 pub has_constant : (x : Val) → IsExpressible x → (e : ConstExpr) × (constant x ≡ Some e)
 has_constant (Num W32 n) h = (_, refl)
 has_constant (Num W64 n) h = (_, refl)
@@ -58,7 +59,7 @@ module _ (env : Environment) (m : Module) (s : State) (name : Text) (names kept 
         subst (λ x. Q.of Functions x x) same (to_itself (bound m s name names kept env) Functions o.address o.low),
       )
 
-  -- what is related to one value
+  -- Two references that are related to one of the quiet run are related to each other.
   both_refs : (r x y : RefVal) → RefRel (Run m i) r x → RefRel (Run m i) r y → RefRel Q x y
   both_refs _ _ _ (func none) (func none) = func none
   both_refs _ _ _ (func (some {a = f} {b = x} h)) (func (some {b = y} k)) =
@@ -87,13 +88,14 @@ module _ (env : Environment) (m : Module) (s : State) (name : Text) (names kept 
   stands_again (Ref (ExternRef None)) y h r = tt
   stands_again (Ref (ExternRef (Some n))) y h r = absurd h
 
-  -- the constant of a value in range has, in the instance of the snapshot, a value that is related to the one that the machine has for it
+  -- The constant of an expressible value of the quiet run has, in the instance of the snapshot, a
+  -- value that is related to the value of the machine.
   pub constant_again : (x y : Val) → IsExpressible x → ValRel (Run m i) x y → (e : ConstExpr) → constant x ≡ Some e → (w : Val) × (second e ≡ Some w) × ValRel Q y w
   constant_again x y h r e is =
       let k = constant_stands (Run m i) second i32 i64 null x e (stands_again x y h r) is in
       (k.0, k.1, both_values x y k.0 r k.2)
 
-  -- what is told of a global that is known is the constant of its value
+  -- A global with a told constant is known, and the constant is that of its value.
   pub told_known : (q : State) (n : ℕ) (e : ConstExpr) → value_of_global m q n ≡ Some e →
       (is_unknown_global m q n ≡ false) × (g : Global) × (slice_get q.store.globals n ≡ Some g) × (constant g.value ≡ Some e)
   told_known q n e is = by (is_unknown_global m q n) refl is
@@ -103,7 +105,7 @@ module _ (env : Environment) (m : Module) (s : State) (name : Text) (names kept 
       by true u h = absurd (let k = h in cc)
       by false u h = let g = and_then_is (slice_get q.store.globals n) _ e h in (u, g.0, g.1, g.2)
 
-  -- of which nothing is told is unknown, where values are in range
+  -- A global without a told constant is unknown if the values of globals are expressible.
   pub untold_unknown : (q : State) → GlobalsAreExpressible q.store → (n : ℕ) (g : Global) → slice_get q.store.globals n ≡ Some g → value_of_global m q n ≡ None → is_unknown_global m q n ≡ true
   untold_unknown q fit n g at is = by (is_unknown_global m q n) refl is
     where

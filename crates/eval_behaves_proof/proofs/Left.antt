@@ -1,4 +1,4 @@
--- What instantiation leaves in the quiet run, in its store of one module alone.
+-- The store that instantiation leaves in the quiet run, which has the one module alone.
 use Rattle.base_lists.proofs.Common.{subst, refl, false, same_Some, and_then_is, ◌≡◌}
 use Rattle.wasm_tree_spec.specs.Prelude.{Module}
 use Rattle.wasm_meaning.specs.Prelude.{Added, const_value, store_with}

@@ -1,4 +1,5 @@
--- Calls of the machine to their ends: what more steps that are allowed change, and where they end that a quiet call leads.
+-- Calls of the machine to their ends: a call that ends also ends if more steps are allowed, and a
+-- call that a quiet call leads to its last step ends there.
 use Rattle.base_lists.proofs.Common.{◌≡◌, ◌∙◌, sym, ap, ℕ, zero, suc, ◌<◌, ◌≤◌, List, Some, arith}
 use Rattle.wasm_meaning.specs.Prelude.{Outcome, Gives, Traps, IllTyped, Val, Store, Entry, Next, Ran, CallsOwn, WaitsGrowth, CallsPlaceholder, EndsCall, step}
 use Rattle.index_remap.specs.Prelude.{here, step_on, KnownSteps, none_left, known_step, Pairing}
@@ -7,7 +8,7 @@ use Rattle.eval_behaves_proof.specs.Worlds.{store_at_end}
 
 -- ---- more steps ----
 
--- where a call ends in so many steps it ends in more
+-- A call that ends within a number of steps ends in the same store if more steps are allowed.
 pub ends_in_more : (n k : ℕ) → n ≤ k → (o : Outcome Next) (t : Store) → store_at_end n o ≡ Some t → store_at_end k o ≡ Some t
 ends_in_more n k le (Gives (EndsCall vs s es)) t e = e
 ends_in_more zero k le (Gives (Ran s es)) t e = absurd (let f = e in cc)
@@ -30,7 +31,7 @@ pub ends_after : (k : ℕ) (s r t : Store) (es gs hs : List Entry) (vs : List Va
 ends_after _ s _ t es _ hs vs here e = ap (store_at_end 0) e
 ends_after _ s r t es gs hs vs (step_on {n = n} {t = u} {fs = fs} f more) e = ap (store_at_end (suc n)) f ∙ ends_after n u r t fs gs hs vs more e
 
--- there are no more of these than steps are allowed
+-- The steps that a call makes before its end are fewer than the steps within which it ends.
 pub goes_within : (k n : ℕ) (s r t : Store) (es gs : List Entry) → GoesOn k s es r gs → store_at_end n (Gives (Ran s es)) ≡ Some t → k < n
 goes_within k zero s r t es gs g e = absurd (let f = e in cc)
 goes_within _ (suc n) s _ t es _ here e = omega arith

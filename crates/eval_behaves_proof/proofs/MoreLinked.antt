@@ -1,4 +1,5 @@
--- Where an environment links a module it instantiates the module with one function more, whatever names of the module may be used.
+-- An environment that links a module also instantiates the module with one more function, whichever
+-- names of the module are in the view.
 use Rattle.base_lists.proofs.Common.{◌≡◌, ◌∙◌, sym, ap, subst, refl, ℕ, zero, suc, ◌+◌, ◌<◌, List, [], ◌∷◌, ◌++◌, length, Bool, true, false, cond, Option, Some, None, inl, inr, arith, slice_get, option_and_then, nat_eq, nat_lt, ◌&&◌, IsTrue, and_from, and_parts, eq-eqb, eqb-true, lt-ltb, ltb-true}
 use Rattle.base_lists.proofs.Common.{same_Some, chosen_from, all_there_at, all_there_from, and_then_is, append_from, map_from, slice_get_there, is_some_there}
 use Rattle.std.specs.Prelude.{unwrap_or}
@@ -20,7 +21,6 @@ use Rattle.eval_behaves_proof.specs.Worlds.{evaluated_world, exports_left, with_
 use Rattle.eval_behaves_proof.proofs.InRange.{below, each_index}
 use Rattle.eval_behaves_proof.proofs.OneMore.{funcs_many, globals_many, mems_many, space_more, tables_many, value_stays}
 
--- what is there by one function for all is there by another that gives the same where the first gives anything
 all_stay : {A B : Type 0} (f g : A → Option B) → ((x : A) (y : B) → f x ≡ Some y → g x ≡ Some y) → (xs : List A) (ys : List B) → all_there f xs ≡ Some ys → all_there g xs ≡ Some ys
 all_stay f g same [] ys h = h
 all_stay f g same (x ∷ xs) ys h =
@@ -28,7 +28,7 @@ all_stay f g same (x ∷ xs) ys h =
     let r = and_then_is (all_there f xs) _ ys y.2 in
     rw (same x y.0 y.1, all_stay f g same xs r.0 r.1) r.2
 
--- the first place that passes a test, or 0 where none does, is below the end of a list that is not empty
+-- The first place of a nonempty list that passes a test, or 0 if none does, is below its end.
 first_within : {A : Type 0} (is : A → Bool) (xs : List A) (n : ℕ) → 0 < n + length xs → unwrap_or (first_place is xs n) 0 < n + length xs
 first_within is [] n h = h
 first_within is (x ∷ xs) n h = go (is x) (first_within is xs (suc n) (omega arith))
@@ -37,7 +37,7 @@ first_within is (x ∷ xs) n h = go (is x) (first_within is xs (suc n) (omega ar
     go true l = omega arith
     go false l = omega (arith, l)
 
--- what an environment makes of the module with one function more
+-- The instance, store and view of the module with one more function in an environment.
 pub record MoreMade (env : Environment) (m : Module) (evaluated kept : List Text) : Type 0 where
   pub inst : Inst
   pub is_inst : insts_from env (one (with_empty_func m)) 0 (one (with_empty_func m)) ≡ Some (inst ∷ [])
@@ -52,7 +52,7 @@ module _ (env : Environment) (m : Module) (names : TreeNamesOnly (with_entry (ea
   abbrev more : Module
   more = with_empty_func m
 
-  -- each of the environment's own entities for itself
+  -- The relation of each of the environment's own entities to itself.
   abbrev itself : Space → ℕ → ℕ → Bool
   itself k a b = nat_eq a b && nat_lt a (own_count k env)
 

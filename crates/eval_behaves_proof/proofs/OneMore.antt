@@ -1,5 +1,5 @@
--- A module and the same with one function more, in an environment: each index of the first has the address in the second that it has in the first, and constant expressions
--- have the values in the second that they have in the first.
+-- A module and the same module with additional functions, in an environment: each index of the
+-- first has the same address in the second, and constant expressions have the same values in both.
 use Rattle.base_lists.proofs.Common.{◌≡◌, ◌∙◌, sym, ap, refl, add-zero, ℕ, ◌+◌, ◌≤◌, List, [], ◌∷◌, ◌++◌, map, length, Option, Some, None, inl, inr, arith, slice_get, option_and_then, length-append, length-numbers, all_there_length, places_many, same_Some, numbers_at, and_then_is, append_at_left}
 use Rattle.base_lists.proofs.Common.{append_from, append_right, length-map, number_is}
 use Rattle.base_lists.specs.Places.{numbers}
@@ -12,14 +12,14 @@ use Rattle.world_simulation.specs.Alone.{read_place, read_in}
 use Rattle.eval_snapshot_spec.specs.Snapshot.{empty_func}
 use Rattle.eval_behaves_proof.specs.Worlds.{with_empty_func}
 
--- the module with more functions, if any
+-- The module with additional functions, if any.
 abbrev pub with_funcs : Module → List tree.Func → Module
 with_funcs m fs = record m { funcs = m.funcs ++ fs }
 
 -- ---- index spaces of a module alone ----
 
 module _ (env : Environment) (t : Module) (k : Space) where
-  -- the addresses of the imports, then those of what is defined
+  -- The addresses of the imports, followed by those of the definitions.
   abbrev pub from_imports : Option (List ℕ) → Option (List ℕ)
   from_imports o = option_and_then (λ l. Some (l ++ numbers (own_count k env) (defined_count k t))) o
 

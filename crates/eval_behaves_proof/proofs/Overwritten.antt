@@ -1,9 +1,10 @@
--- A list with others written over a part of it, place by place; and so with references that are related but at unknown places.
+-- A list of which a part is overwritten, place by place; and two such lists of references that are
+-- related except at unknown places.
 use Rattle.base_lists.proofs.Common.{◌≡◌, ◌∙◌, sym, ap, ap₂, refl, ℕ, zero, suc, ◌+◌, ◌-◌, ◌<◌, ◌≤◌, List, [], ◌∷◌, ◌++◌, length, Bool, true, Some, ◌⊎◌, inl, inr, arith, slice_get, cases_lt, length-append, slice_get_past, and_then_is, append_left, append_right, opt_at, overwrite_fits}
 use Rattle.wasm_meaning.specs.Prelude.{overwrite, split_at, RefVal}
 use Rattle.index_remap.specs.Prelude.{Pairing, OptRel, none, RefRel, RefsOff}
 
--- the two parts of a list that is split
+-- The two parts of a list that is split at a place.
 split_parts : {A : Type 0} (n : ℕ) (xs : List A) (p : List A × List A) → split_at n xs ≡ Some p → (length p.0 ≡ n) × (xs ≡ p.0 ++ p.1)
 split_parts zero xs p e = let same : ([], xs) ≡ p = cc in rw (← same) (refl, refl)
 split_parts (suc n) [] p e = absurd (let f = e in cc)
@@ -13,7 +14,7 @@ split_parts (suc n) (x ∷ xs) p e =
     let same : (x ∷ q.0.0, q.0.1) ≡ p = let f = q.2 in cc in
     rw (← same) (ap suc r.0, ap (λ l. x ∷ l) r.1)
 
--- what stands before, in, and behind the part that is written
+-- The elements before, in and behind the part of a list that is overwritten.
 pub record WrittenOver {A : Type 0} (xs : List A) (n : ℕ) (ys zs : List A) : Type 0 where
   pub before : List A
   pub old : List A
@@ -77,7 +78,8 @@ module _ {A : Type 0} (xs : List A) (n : ℕ) (ys zs : List A) (w : WrittenOver 
 
 -- ---- references that are related but at unknown places ----
 
--- a place is known after the copy where what came to it was known, or where nothing came to it and it was known before
+-- A place that is known after the copy received a known item, or received none and was known
+-- before.
 pub record KnownAfter (old items after : ℕ → Bool) (place count size : ℕ) : Type 0 where
   pub came : (k : ℕ) → k < count → place + k < size → after (place + k) ≡ true → items k ≡ true
   pub stayed : (p : ℕ) → (p < place) ⊎ (place + count ≤ p) → p < size → after p ≡ true → old p ≡ true

@@ -1,11 +1,12 @@
--- At the address that an imported function denotes, the environment has its own function of that pair and type.
+-- The function at the address that an imported function denotes is the environment's own function
+-- of that pair and type.
 use Rattle.base_lists.proofs.Common.{◌≡◌, ◌∙◌, sym, ap, ap₂, refl, ℕ, suc, ◌+◌, List, [], ◌∷◌, ◌++◌, map, append-nil, Option, Some, None, Bool, true, false, cond, arith, slice_get, and_parts, append_rel, self_rel, maps_rel, each_same_is}
 use Rattle.base_lists.proofs.Same.{text_is}
 use Rattle.wasm_tree_spec.specs.Prelude.{FuncType, same_type, same_func_type}
 use Rattle.wasm_meaning.specs.Prelude.{Pair, Func, Own, same_pair, same_text, Environment, Offer, OwnKey, FuncKey, TableKey, MemoryKey, GlobalKey, ExternalValue, FuncAt, TableAt, MemoryAt, GlobalAt, Owned, same_key, look_up, owned_at, owned_of, addressed, flat, one_if, own_funcs}
 use Rattle.index_remap.specs.Prelude.{ListRel, nil, cons}
 
--- a key and the function that is allocated for it
+-- The function is the one that is allocated for the key.
 abbrev IsOwn : OwnKey → Func → Type 0
 IsOwn key f = (p : Pair) × (t : FuncType) × (key ≡ FuncKey p t) × (f ≡ Own p t)
 
@@ -17,7 +18,7 @@ module _ (pair : Pair) (t : FuncType) where
   abbrev is : OwnKey → Bool
   is = same_key (FuncKey pair t)
 
-  -- keys of another kind are passed over
+  -- Keys of other kinds do not affect the search for a function.
   passed_over : {B : Type 0} (of : Offer → Option B) (key : Offer → B → OwnKey) → ((o : Offer) (b : B) → is (key o b) ≡ false) → (os : List Offer) (thing : ℕ → ExternalValue) (n : ℕ) (rest : Owned) →
       look_up is (addressed thing n (flat (λ o. one_if (key o) (of o)) os) ++ rest) ≡ look_up is rest
   passed_over of key other [] thing n rest = refl
@@ -36,7 +37,7 @@ module _ (pair : Pair) (t : FuncType) where
       ∙ ap (look_up is) (sym (append-nil (addressed GlobalAt 0 (flat (λ o. one_if (λ g. GlobalKey o.pair) o.global) env))))
       ∙ passed_over (λ o. o.global) (λ o b. GlobalKey o.pair) (λ o b. refl) env GlobalAt 0 []
 
-  -- one that is found
+  -- A function of the environment's own that the search finds, and its place.
   pub record FoundOwn (n : ℕ) (fs : List Func) (x : ExternalValue) : Type 0 where
     pub place : ℕ
     pub thing : x ≡ FuncAt (n + place)

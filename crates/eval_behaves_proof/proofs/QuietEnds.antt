@@ -1,4 +1,5 @@
--- A quiet call is a call of the machine in its own store, which ends in as many steps, leaves the functions and gives back no turns.
+-- A quiet call is a call of the machine in the same store, which ends in as many steps, leaves the
+-- functions unchanged and adds no turns.
 use Rattle.base_lists.proofs.Common.{◌≡◌, ◌∙◌, sym, ap, refl, subst, ℕ, zero, suc, ◌≤◌, List, [], ◌∷◌, Bool, true, false, cond, not, ◌||◌, Option, Some, None, arith, slice_get, nat_eq, filter}
 use Rattle.base_lists.specs.Members.{is_among}
 use Rattle.wasm_tree_spec.specs.Prelude.{Module}
@@ -12,7 +13,7 @@ use Rattle.eval_behaves_proof.specs.Worlds.{store_at_end}
 -- ---- functions stay ----
 
 module _ (s : Store) where
-  -- in the store that a step leaves
+  -- The store that a step leaves has the same functions as before.
   abbrev pub Stay : Next → Type 0
   Stay (Ran t fs) = t.funcs ≡ s.funcs
   Stay (CallsOwn p u vs t fs) = t.funcs ≡ s.funcs
@@ -63,7 +64,6 @@ module _ (s : Store) where
 
 -- ---- what is unknown after a step was so before ----
 
--- each address of the one list is one of the other
 abbrev pub AreAmong : (xs ys : List ℕ) → Type 0
 AreAmong xs ys = (a : ℕ) → is_among xs a ≡ true → is_among ys a ≡ true
 
@@ -113,7 +113,8 @@ was_unknown u s es = by es
 
 -- ---- the end ----
 
--- the call from this state is over in so many steps, where the quiet run is
+-- The machine's call from this state ends within `n` steps in the store where the quiet run ends,
+-- with the same functions, no more turns and no more unknown globals.
 pub record Over (n : ℕ) (s : State) (es : List Entry) (t : State) : Type 0 where
   pub ends : store_at_end n (Gives (Ran s.store es)) ≡ Some t.store
   pub funcs : t.store.funcs ≡ s.store.funcs
@@ -132,7 +133,8 @@ at_end : (m : Module) (n : ℕ) (s t : State) → after_steps m n (Finished s) �
 at_end m zero s t e = e
 at_end m (suc n) s t e = e
 
--- so it is from each state from which the run has so many steps
+-- The induction hypothesis: each run that finishes within `n` steps has a call of the machine that
+-- ends as it does.
 abbrev Again : Module → ℕ → State → Type 0
 Again m n t = (r : State) (fs : List Entry) → after_steps m n (Going r fs) ≡ Finished t → Over n r fs t
 

@@ -1,4 +1,5 @@
--- The whole quiet run as the machine's in an environment, from stores that are related once both are instantiated.
+-- The whole quiet run as a run of the machine in an environment, from the related stores after both
+-- are instantiated.
 use Rattle.base_lists.proofs.Common.{◌≡◌, ◌∙◌, sym, ap, refl, ℕ, ◌≤◌, List, [], ◌∷◌, ◌++◌, Option, Some, None, false}
 use Rattle.wasm_tree_spec.specs.Prelude.{Functions, Module}
 use Rattle.wasm_meaning.specs.Prelude.{Text, Inst, Environment, Begun, insts_from, instantiate}
@@ -18,7 +19,7 @@ use Rattle.eval_behaves_proof.proofs.CallsAlike.{calls_alike}
 use Rattle.eval_behaves_proof.proofs.Related.{apart, relates}
 use Rattle.eval_behaves_proof.proofs.Rows.{rows}
 
--- the start, if there is one
+-- The index of the start function as a list, which is empty if there is no start.
 abbrev pub start_of : Option ℕ → List ℕ
 start_of None = []
 start_of (Some func) = func ∷ []
@@ -27,7 +28,8 @@ pub start_first : (m : Module) (s : State) (o : Option ℕ) (ns : List ℕ) → 
 start_first m s None ns = refl
 start_first m s (Some func) ns = refl
 
--- Both are instantiated, the quiet run in its own store and the world in the environment: the stores are related, and so are the functions that are to be called, by index and address.
+-- The quiet run in its own store and the world in the environment are both instantiated: the stores
+-- are related, and so are the indices and the addresses of the functions to be called.
 pub record BothInstantiated (env : Environment) (m : Module) (constructors kept : List Text) : Type 0 where
   pub begun : Begun
   pub is_begun : instantiate env (evaluated_world m constructors kept) ≡ Some begun
@@ -45,7 +47,8 @@ pub record BothInstantiated (env : Environment) (m : Module) (constructors kept 
   pub called : ListRel ((passed (stands_at m inst) (names_at m inst) []).of Functions) (start_of m.start ++ funcs_named m constructors) (begun.starts ++ addresses)
 
 module _ (known : QuietCallsAreKnown) (lead : QuietCallsSimulate) (agree : StepsAgreeOff) (runs : RunsAgreeOff) (reached : EndsAreReached) (env : Environment) (m : Module) (constructors kept : List Text) (t : State) where
-  -- then the calls come to their ends in both, and what the quiet run leaves is what the machine leaves; what is not related, or still unknown, is as it was
+  -- The calls end in both, and the stores that they leave are related. In the store of the machine,
+  -- what is not related, and what is still unknown, is unchanged.
   pub record QuietRun (b : BothInstantiated env m constructors kept) : Type 0 where
     pub machines : IsTheMachines env m constructors kept t
     pub alone : LeavesAlone (passed (stands_at m b.inst) (names_at m b.inst) []) t.unknown b.begun.store machines.begun.store

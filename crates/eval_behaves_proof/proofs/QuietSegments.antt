@@ -1,4 +1,5 @@
--- What a quiet instantiation says of the module: it has at most one memory, none of its active data segments goes to an imported one, and its own store has as many memories.
+-- Consequences of a quiet instantiation: the module has at most one memory, none of its active data
+-- segments goes to an imported memory, and the store of the quiet run has as many memories.
 use Rattle.base_lists.proofs.Common.{◌≡◌, ◌∙◌, sym, ap, ap₂, refl, ℕ, zero, suc, ◌+◌, ◌≤◌, List, [], ◌∷◌, length, Bool, true, false, cond, ◌||◌, Option, Some, None, inl, inr, slice_get, nat_lt, cases_lt, lt-ltb, length-append, length-map, length-set, same_Some, and_then_is, arith}
 use Rattle.std.proofs.lemmas.Bool.{true≢false}
 use Rattle.base_lists.specs.Places.{numbers}

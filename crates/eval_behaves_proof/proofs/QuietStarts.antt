@@ -1,4 +1,5 @@
--- A quiet instantiation and start are the machine's, of the module itself, in each environment that links it.
+-- A quiet instantiation and start correspond to those of the machine, for the module itself, in
+-- each environment that links it.
 use Rattle.base_lists.proofs.Common.{◌≡◌, ◌∙◌, sym, ap, ap₂, subst, refl, ◌≤◌, List, [], ◌∷◌, ◌++◌, append-nil, false, Some, arith, IsTrue, same_Some, and_then_is, is_some_there, append_rel}
 use Rattle.wasm_tree_spec.specs.Prelude.{Functions, Module}
 use Rattle.wasm_tree.specs.declared.module.Func as tree
@@ -26,7 +27,7 @@ module _ (naming : NamingLaws) (env : Environment) (m : Module) (names : TreeNam
   abbrev R : Inst → Pairing
   R i = passed (stands_at m i) (names_at m i) []
 
-  -- both stores once the segments are copied, and both starts
+  -- Both stores after the segments are copied, and both start functions.
   record Filled (w : Module) (i : Inst) (there : Store) : Type 0 where
     pub store : Store
     pub filled : segments env (one w) (i ∷ []) (joined_stores (own_store env) there) ≡ record { store = store; trapped = false }
@@ -53,11 +54,12 @@ module _ (naming : NamingLaws) (env : Environment) (m : Module) (names : TreeNam
         starts = started m names env [] i is m.start (started_func m names);
       }
 
-  -- no function more is none
+  -- The module with no additional functions is the module itself.
   itself : FilledIn m
   itself = subst FilledIn (ap (λ (fs : List tree.Func). record m { funcs = fs }) (append-nil m.funcs)) with_none
 
-  -- both are instantiated
+  -- The quiet run and the module in the environment are both instantiated, with related stores and
+  -- starts.
   pub record BothStarted : Type 0 where
     pub begun : Begun
     pub is_begun : instantiate env (alone m) ≡ Some begun
@@ -95,7 +97,7 @@ module _ (naming : NamingLaws) (env : Environment) (m : Module) (names : TreeNam
 
 module _ (known : QuietCallsAreKnown) (lead : QuietCallsSimulate) (agree : StepsAgreeOff) (runs : RunsAgreeOff) (reached : EndsAreReached) (naming : NamingLaws)
     (env : Environment) (m : Module) (t : State) where
-  -- then the start comes to its end in both
+  -- The start ends in both.
   start_run : (names : TreeNamesOnly (with_entry (each_index m)) m) (s : State) (quiet : instantiated m MOST_TURNS ≡ Finished s) → BothStarted naming env m names s quiet →
       evaluated m [] ≡ Finished t → StartIsTheMachines env m t
   start_run names s quiet b e =

@@ -1,4 +1,5 @@
--- The relation of indices and the addresses for which they stand is as the laws of quiet calls ask.
+-- The relation of indices and the addresses that they denote fulfils the premises of the laws of
+-- quiet calls.
 use Rattle.base_lists.proofs.Common.{◌≡◌, ◌∙◌, sym, ap, ℕ, ◌+◌, ◌-◌, ◌≤◌, List, [], ◌++◌, length, true, not, ◌&&◌, Option, Some, None, inl, inr, arith, slice_get, IsTrue, nat_lt, and_from, and_parts, eqb-true, lt-ltb, cases_lt, same_Some, slice_get_within, length-numbers, numbers_at, append_right}
 use Rattle.std.proofs.lemmas.Bool.{true≢false}
 use Rattle.base_lists.specs.Places.{numbers}
@@ -10,7 +11,8 @@ use Rattle.eval_spec.specs.Prelude.{is_imported, own_inst}
 use Rattle.eval_proof.specs.Known.{RelatesAllButImports}
 use Rattle.eval_behaves_proof.specs.Addresses.{addresses_in, names_at, stands_at}
 
--- the addresses of what is imported, if anything is, and then those of what is defined, in a row
+-- The addresses of the imports, if any, followed by those of the definitions, which are
+-- consecutive.
 pub record InARow (m : Module) (i : Inst) (k : Space) : Type 0 where
   pub imported : List ℕ
   pub many : length imported ≤ length (imports_of k m)
@@ -51,7 +53,7 @@ module _ (m : Module) (i : Inst) where
       go DataSegments w q = least (length (imports_of DataSegments m)) q
 
   module _ (rows : (k : Space) → is_written k ≡ true → InARow m i k) where
-    -- where it is defined the address tells the index
+    -- The address of a definition determines its index.
     place : (k : Space) → (w : is_written k ≡ true) → (n a : ℕ) → IsTrue (stands_at m i k n a) → a + length (rows k w).imported ≡ (rows k w).base + n
     place k w n a h =
         let r = rows k w in

@@ -1,4 +1,6 @@
--- In the instance of a module with one more function each index space that may be written has what is imported first, and then what is defined in a row.
+-- Each index space with a state that steps may write has the addresses of the imports first, and
+-- then consecutive addresses of the definitions, in the instance of a module with additional
+-- functions.
 use Rattle.base_lists.proofs.Common.{◌≡◌, ◌∙◌, sym, ap, refl, arith, ◌++◌, length, List, [], Some, true, true≢false, and_then_is, all_there_length}
 use Rattle.base_lists.specs.Places.{numbers}
 use Rattle.wasm_tree_spec.specs.Prelude.{Space, Types, Functions, Tables, Memories, Globals, ElementSegments, DataSegments, Module}

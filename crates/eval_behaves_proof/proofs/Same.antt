@@ -1,4 +1,5 @@
--- Where what the first step makes of a module's constructors corresponds to what another module is instantiated to, both have equal traces.
+-- A module with evaluated constructors and another module have equal traces if the first step of
+-- the one corresponds to the instantiation of the other.
 use Rattle.base_lists.proofs.Common.{◌∙◌, sym, ℕ, List, [], ◌∷◌, Bool, append-nil, IsTrue}
 use Rattle.wasm_tree_spec.specs.Prelude.{Space, Module}
 use Rattle.wasm_meaning.specs.Prelude.{Text, Environment, is_environment, alone, instantiate, links}
@@ -7,7 +8,8 @@ use Rattle.world_simulation.specs.Prelude.{RelatedBegunHaveEqualTraces}
 use Rattle.eval_behaves_proof.specs.Worlds.{evaluated_begun}
 use Rattle.eval_behaves_proof.specs.Laws.{ObservationallyEquivalent}
 
--- in an environment, under a relation of addresses that is one to one
+-- The first step of the module with evaluated constructors corresponds to the instantiation of the
+-- other module in an environment, under a relation of addresses that is one to one.
 pub record BeginAlike (env : Environment) (m : Module) (constructors kept : List Text) (other : Module) : Type 0 where
   pub of : Space → ℕ → ℕ → Bool
   pub apart : OneToOne (passed of of [])
@@ -20,6 +22,6 @@ alike_show_the_same same m name names kept other alike env is linked moves n =
     let e = same a.of a.apart env (evaluated_begun env m (name ∷ names) kept) (instantiate env (alone other)) a.begun moves n in
     (([], append-nil _ ∙ e), ([], append-nil _ ∙ sym e))
 
--- where no constructor is evaluated the module behaves as itself
+-- A module of which no constructor is evaluated behaves as itself.
 pub none_evaluated : (m : Module) (kept : List Text) → ObservationallyEquivalent m [] kept m
 none_evaluated m kept env is linked moves n = (([], append-nil _), ([], append-nil _))

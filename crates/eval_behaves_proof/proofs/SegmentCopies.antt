@@ -1,4 +1,5 @@
--- What it needs for a segment to be copied where its module is instantiated (WebAssembly Core 2.0, section 4.5.4), and what a copy leaves.
+-- The conditions under which a segment is copied at the instantiation of its module (WebAssembly
+-- Core 2.0, section 4.5.4), and the store after the copy.
 use Rattle.base_lists.proofs.Common.{◌≡◌, ◌∙◌, ap, subst, refl, ℕ, suc, List, [], ◌∷◌, length, Bool, true, false, cond, Option, Some, None, slice_get, option_and_then, same_Some}
 use Rattle.base_lists.specs.Every.{Every}
 use Rattle.wasm_tree_spec.specs.Prelude.{Space, Types, Functions, Tables, Memories, Globals, ElementSegments, DataSegments, same_space, Import, ImportDesc, space_of_import}
@@ -9,7 +10,7 @@ use Rattle.eval_spec.specs.Prelude.{State, Finished, Test, first_held, stopped_o
 
 -- ---- what no test stopped ----
 
--- where the stage is finished no test held
+-- A finished stage fulfilled none of the tests that stop it.
 pub went : (ts : List Test) (u s : State) → stopped_or (first_held ts) (Finished u) ≡ Finished s → Every (λ t. t.holds ≡ false) ts × (u ≡ s)
 went [] u s e = (tt, cc)
 went (t ∷ ts) u s e = by t.holds refl e (went ts u s)
@@ -19,7 +20,7 @@ went (t ∷ ts) u s e = by t.holds refl e (went ts u s)
     by true h e again = absurd (let k = e in cc)
     by false h e again = let r = again e in ((h, r.0), r.1)
 
--- what goes on is there
+-- A copy that does not trap found what it looked up.
 goes_on : {A : Type 0} (s : Store) (o : Option A) (f : A → Option Filled) → (or_trapped s (option_and_then f o)).trapped ≡ false → (a : A) × (o ≡ Some a) × ((or_trapped s (f a)).trapped ≡ false)
 goes_on s None f e = absurd (let k = e in cc)
 goes_on s (Some a) f e = (a, refl, e)
@@ -27,11 +28,10 @@ goes_on s (Some a) f e = (a, refl, e)
 pub both_there : {A B : Type 0} {P : A → B → Type 0} {o : Option A} {p : Option B} → BothRel P o p → (a : A) → o ≡ Some a → (b : B) × (p ≡ Some b) × P a b
 both_there {P = P} (both {a = x} {b = y} r) a e = (y, refl, subst (λ x. P x y) (same_Some x a e) r)
 
--- with the entity that stands there
+-- The relation may also use that the first entity is the one found.
 pub with_it : {A B : Type 0} {P : A → B → Type 0} {o : Option A} {p : Option B} → BothRel P o p → BothRel (λ a b. (o ≡ Some a) × P a b) o p
 with_it (both r) = both (refl, r)
 
--- a space of segments
 abbrev pub is_of_segments : Space → Bool
 is_of_segments ElementSegments = true
 is_of_segments DataSegments = true
@@ -52,22 +52,22 @@ no_import Tables h d = absurd (let k = h in cc)
 no_import Memories h d = absurd (let k = h in cc)
 no_import Globals h d = absurd (let k = h in cc)
 
--- segments are not imported
+-- No import is a segment.
 pub none_imported : (k : Space) → is_of_segments k ≡ true → (is : List Import) (from : ℕ) → length (places (has_kind k) is from) ≡ 0
 none_imported k h [] from = refl
 none_imported k h (x ∷ is) from = ap (λ b. length (cond b (from ∷ places (has_kind k) is (suc from)) (places (has_kind k) is (suc from)))) (no_import k h x.desc) ∙ none_imported k h is (suc from)
 
 -- ---- what a copy did ----
 
--- the table has these slots, and the segment is dropped
+-- The store in which the table has these slots and the element segment is dropped.
 abbrev pub with_table : Store → (segment address : ℕ) → Table → List RefVal → Store
 with_table s n a t slots = changed (changed s (SetTable a (record t { slots = slots }))) (DropElem n)
 
--- the memory has these bytes, and the segment is dropped
+-- The store in which the memory has these bytes and the data segment is dropped.
 abbrev pub with_memory : Store → (segment address : ℕ) → Memory → List ℕ → Store
 with_memory s n a t bytes = changed (changed s (SetMemory a (record t { bytes = bytes }))) (DropData n)
 
--- an element segment was copied into a table
+-- An element segment was copied into a table.
 pub record ElemCopied (s : Store) (n : ℕ) (i : Inst) (x : ℕ) (o : Option ℕ) : Type 0 where
   pub place : ℕ
   pub place_is : o ≡ Some place
@@ -95,7 +95,7 @@ elem_copied s n i x o e =
     by p a t d pe ae te de (Some slots) we h =
         record { place = p; place_is = pe; address = a; address_is = ae; table = t; table_is = te; element = d; element_is = de; slots = slots; written = we; left = rw (pe, ae, te, de, we) refl }
 
--- a data segment was copied into a memory
+-- A data segment was copied into a memory.
 pub record DataCopied (s : Store) (n : ℕ) (i : Inst) (x : ℕ) (o : Option ℕ) : Type 0 where
   pub place : ℕ
   pub place_is : o ≡ Some place
@@ -123,7 +123,7 @@ data_copied s n i x o e =
     by p a t d pe ae te de (Some bytes) we h =
         record { place = p; place_is = pe; address = a; address_is = ae; memory = t; memory_is = te; segment = d; segment_is = de; bytes = bytes; written = we; left = rw (pe, ae, te, de, we) refl }
 
--- where all is there it is copied
+-- A segment is copied without a trap if all parts of the copy exist and the segment fits.
 pub elem_copies : (s : Store) (n : ℕ) (i : Inst) (x : ℕ) (o : Option ℕ) (p a : ℕ) (t : Table) (d : Elem) (slots : List RefVal) → o ≡ Some p → slice_get i.tables x ≡ Some a →
     slice_get s.tables a ≡ Some t → slice_get s.elems n ≡ Some d → overwrite t.slots p d.items ≡ Some slots →
     copy_elem s n i x o ≡ record { store = with_table s n a t slots; trapped = false }

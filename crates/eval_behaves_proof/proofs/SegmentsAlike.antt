@@ -1,4 +1,5 @@
--- A segment that the quiet run copies is copied in an environment too, and what is left is related but for what is unknown then.
+-- A segment that the quiet run copies is copied in an environment too, and the stores after the
+-- copies are related except for what is then unknown.
 use Rattle.base_lists.proofs.Common.{◌≡◌, ◌∙◌, sym, ap, ap₂, subst, refl, ℕ, ◌<◌, List, length, Bool, false, not, Some, inl, inr, arith, slice_get, nat_lt, slice_get_past, cases_lt, le-ltb, numbers_is, opt_at, set_other}
 use Rattle.std.specs.Prelude.{unwrap_or}
 use Rattle.std.proofs.lemmas.Bool.{or_parts}
@@ -22,7 +23,7 @@ use Rattle.eval_behaves_proof.proofs.SegmentCopies.{DataCopied, ElemCopied, with
 
 -- ---- both ----
 
--- an active segment holds as many items as the module says
+-- An active segment has as many items as the module says.
 abbrev pub IsWhole : ElemMode → ElemSeg → Elem → Type 0
 IsWhole (elem.Active table offset) e y = length y.items ≡ length e.items
 IsWhole _ e y = Unit {0}
@@ -37,7 +38,8 @@ module _ (env : Environment) (m : Module) (fs : List tree.Func) (i : Inst) (is :
   abbrev pub task : {A : Type 0} → ℕ → A → PlacedSegment A
   task n e = record { part = 0; inst = i; address = n; segment = e }
 
-  -- what the other came to: it is not trapped, its store is related to that of the quiet run, which has its functions and turns still
+  -- The copy in the environment does not trap, and its store is related to that of the quiet run,
+  -- whose functions and turns are unchanged.
   pub record CopiedAlike (s t : State) (f : Filled) : Type 0 where
     pub store : Store
     pub filled : f ≡ record { store = store; trapped = false }
@@ -45,7 +47,7 @@ module _ (env : Environment) (m : Module) (fs : List tree.Func) (i : Inst) (is :
     pub funcs : t.store.funcs ≡ s.store.funcs
     pub turns : t.turns ≡ s.turns
 
-  -- and of element segments no other is changed
+  -- A copy of an element segment changes no other element segment.
   pub record ElemAlike (n : ℕ) (s t : State) (f : Filled) : Type 0 where
     pub copied : CopiedAlike s t f
     pub others : (k : ℕ) → (n ≡ k → ⊥) → slice_get t.store.elems k ≡ slice_get s.store.elems k
@@ -64,7 +66,7 @@ module _ (env : Environment) (m : Module) (fs : List tree.Func) (i : Inst) (is :
 
   -- ---- element segments ----
 
-  -- tables after a copy into related ones
+  -- The stores are related after a copy into related tables.
   tables_off : (s : State) (x : Store) (n table count : ℕ) (place b : ℕ) (t u : Table) (slots others : List RefVal) → StoreRelOff S s.unknown s.store x → S.of Tables table b →
       slice_get s.store.tables table ≡ Some t → TableOff S (λ p. not (is_place_among s.unknown.slots table p)) t u →
       RefsOff S (λ p. not (is_place_among (copied_slots s n table place count).slots table p)) slots others →
@@ -95,11 +97,12 @@ module _ (env : Environment) (m : Module) (fs : List tree.Func) (i : Inst) (is :
         ];
       }
 
-  -- a state with the slots that are unknown after such a copy
+  -- A state with the slots that are unknown after such a copy.
   abbrev with_slots : State → (segment table place count : ℕ) → Store → State
   with_slots s n table place count store = record s { store = store; unknown = copied_slots s n table place count }
 
-  -- what was copied, where nothing that it needs is unknown
+  -- An element segment that the quiet run copied is copied in the environment if its offset reads
+  -- no global and its table is not imported.
   elem_went : (s t : State) (x : Store) (n : ℕ) (e : ElemSeg) (table : ℕ) (offset : ConstExpr) → n < length m.elems → StoreRelOff S s.unknown s.store x →
       ((y : Elem) → slice_get s.store.elems n ≡ Some y → length y.items ≡ length e.items) →
       reads_global offset ≡ false → is_imported m Tables table ≡ false → ElemCopied s.store n (own_inst m) table (offset_in (value_in m) offset) →

@@ -1,4 +1,5 @@
--- The relation of each address to itself, below a bound for each space, and the index spaces of two modules with the same imports.
+-- The relation of each address to itself, below a bound for each space, and the index spaces of two
+-- modules with the same imports.
 use Rattle.base_lists.proofs.Common.{◌≡◌, ◌∙◌, sym, ap, ap₂, ℕ, ◌+◌, ◌-◌, ◌<◌, ◌≤◌, List, [], ◌++◌, length, Bool, ◌&&◌, Some, inl, inr, arith, slice_get, refl, true, IsTrue, nat_eq, nat_lt, and_parts, cases_lt, eq-eqb, eqb-true, lt-ltb, ltb-true, same_Some, numbers_at, append_left, append_right}
 use Rattle.base_lists.proofs.Common.{slice_get_there, get_rel, opt_at, opt_both}
 use Rattle.base_lists.specs.Places.{numbers}
@@ -39,7 +40,7 @@ module _ (bound : Space → ℕ) where
       globals = λ a lt. let r = room Globals in to_itself Globals a (omega (arith, lt, r));
     }
 
-    -- an index names the same address in both, which is below the bound
+    -- An index denotes the same address in both, and it is below the bound.
     pub record NamesOne (k : Space) (xs ys : List ℕ) (n : ℕ) : Type 0 where
       pub address : ℕ
       pub first : slice_get xs n ≡ Some address
@@ -51,7 +52,8 @@ module _ (bound : Space → ℕ) where
 
     module _ (t u : Module) (types : u.types ≡ t.types) (imports : u.imports ≡ t.imports) (k : Space) (xs ys : List ℕ) (h : space env (one t) k 0 t ≡ Some xs)
         (g : space env (one u) k 0 u ≡ Some ys) where
-      -- the addresses of what is imported come first in both, and then those of what is defined, in a row
+      -- The addresses of the imports come first in both, followed by those of the definitions,
+      -- which are consecutive.
       pub record AreRows : Type 0 where
         pub imported : List ℕ
         pub many : length imported ≡ length (imports_of k t)
@@ -66,7 +68,7 @@ module _ (bound : Space → ℕ) where
           let imported : sy.imported ≡ sx.imported = same_Some _ _ (sym sy.are ∙ ap₂ (λ ts is. addresses env ts is k) types imports ∙ sx.are) in
           record { imported = sx.imported; many = sx.many; shown = sx.shared; first = sx.all; second = sy.all ∙ ap (λ l. l ++ numbers (own_count k env) (defined_count k u)) imported }
 
-      -- what is defined in both
+      -- A definition that both modules have denotes the same address in both.
       pub defined_named : (n : ℕ) → n < defined_count k t → n < defined_count k u → own_count k env + n < bound k →
           (slice_get xs (length (imports_of k t) + n) ≡ Some (own_count k env + n)) × (slice_get ys (length (imports_of k t) + n) ≡ Some (own_count k env + n))
       defined_named n left right low =

@@ -1,4 +1,4 @@
--- The snapshot of a module shows what the module shows after its evaluated constructors.
+-- The snapshot of a module has the traces of the module after its evaluated constructors.
 use Rattle.std.specs.Prelude.{[], ◌∷◌}
 use Rattle.world_simulation.specs.Instances.{RelatedBegunHaveEqualTraces}
 use Rattle.eval_numbers_proof.specs.Ranges.{EvaluatedGlobalsAreExpressible}

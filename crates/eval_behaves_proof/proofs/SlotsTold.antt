@@ -1,4 +1,4 @@
--- Which slots are unknown after an element segment was copied into a table of the quiet run.
+-- The slots that are unknown after an element segment was copied into a table of the quiet run.
 use Rattle.base_lists.proofs.Common.{◌≡◌, ◌∙◌, sym, ap, refl, ℕ, zero, suc, ◌+◌, ◌-◌, ◌<◌, ◌≤◌, List, [], ◌∷◌, map, length, Bool, true, false, cond, not, Some, ◌⊎◌, inl, inr, arith, slice_get, nat_eq, nat_le, nat_lt, ◌&&◌, filter, eq-eqb, le-leb, le-ltb, lt-leb, lt-ltb, ne_eqb, not-true, is_kept}
 use Rattle.base_lists.proofs.Common.{numbers_at, Has, append_at_left, append_right, map_at, same_Some}
 use Rattle.std.proofs.lemmas.Bool.{not_from_false}
@@ -10,7 +10,7 @@ use Rattle.eval_spec.specs.Instantiation.{is_unknown_slot}
 use Rattle.eval_behaves_proof.proofs.AtFirst.{place_among_at}
 use Rattle.eval_behaves_proof.proofs.Overwritten.{KnownAfter}
 
--- each slot that is there is among all slots
+-- Each slot of a table is in the list of all slots.
 slot_there : (from : ℕ) (ts : List Table) (c p : ℕ) (t : Table) → slice_get ts c ≡ Some t → p < length t.slots → Has (slots_from from ts) (from + c, p)
 slot_there from [] c p t h low = absurd (let k = h in cc)
 slot_there from (u ∷ ts) zero p t h low =
@@ -26,7 +26,7 @@ slot_there from (u ∷ ts) (suc c) p t h low =
     let z : (from + 1) + c ≡ from + suc c = omega arith in
     (length (map (λ k. (from, k)) (numbers 0 (length u.slots))) + r.0, append_right (map (λ k. (from, k)) (numbers 0 (length u.slots))) (slots_from (from + 1) ts) r.0 ∙ r.1 ∙ ap (λ q. Some (q, p)) z)
 
--- of these one that is not kept is told not to be
+-- A slot of a table that is not in the filtered list fails the test of the filter.
 slot_told : (ts : List Table) (c p : ℕ) (t : Table) (keeps : ℕ × ℕ → Bool) → slice_get ts c ≡ Some t → p < length t.slots → not (is_place_among (filter keeps (slots_from 0 ts)) c p) ≡ true →
     keeps (c, p) ≡ false
 slot_told ts c p t keeps h low k = by (keeps (c, p)) refl
@@ -43,7 +43,7 @@ module _ (s : State) (segment table place count : ℕ) where
   abbrev after : Unknowns
   after = copied_slots s segment table place count
 
-  -- of another table all is as it was
+  -- A slot of another table that is known after the copy was known before it.
   pub other_table : (c p : ℕ) (t : Table) → slice_get s.store.tables c ≡ Some t → p < length t.slots → (table ≡ c → ⊥) → not (is_place_among after.slots c p) ≡ true →
       not (is_place_among s.unknown.slots c p) ≡ true
   other_table c p t h low other k =
@@ -52,7 +52,8 @@ module _ (s : State) (segment table place count : ℕ) where
       not_from_false _ (ap (λ b. cond (b && (nat_le place p && nat_lt p (place + count))) (is_place_among s.unknown.items segment (p - place)) (is_place_among s.unknown.slots c p)) (sym differs)
       ∙ told)
 
-  -- of this one a slot is known where the item was that came to it, and any other where it was
+  -- A slot of the written table is known after the copy if its new item is known, or if it received
+  -- none and was known before.
   pub this_table : (t : Table) → slice_get s.store.tables table ≡ Some t →
       KnownAfter (λ p. not (is_place_among s.unknown.slots table p)) (λ k. not (is_place_among s.unknown.items segment k)) (λ p. not (is_place_among after.slots table p)) place count (length t.slots)
   this_table t h = record { came = came; stayed = stayed }

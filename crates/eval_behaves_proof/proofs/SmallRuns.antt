@@ -1,4 +1,4 @@
--- Small modules after evaluated constructors, and their snapshots: what is seen of both, computed.
+-- Small modules after evaluated constructors, and their snapshots: the traces of both, computed.
 use Rattle.base_lists.proofs.Common.{◌≡◌, refl, option_map, rules, ℕ, pos, List, [], ◌∷◌, Some, None, true, false}
 use Rattle.wasm_tree_spec.specs.Prelude.{Instr, the_lemmas, I32Store8, FuncType, GlobalType, I32, Ref, ConstExpr, Export, ExportDesc, Func, GlobalDef, Module}
 use Rattle.wasm_tree.specs.declared.instr.Instr.{out-Instr}
@@ -36,7 +36,7 @@ nothing = record { params = []; results = [] }
 abbrev pub gives_number : FuncType
 gives_number = record { params = []; results = I32 ∷ [] }
 
--- type 0 gives a number, and type 1 nothing
+-- A module with two types: type 0 has one result, and type 1 has none.
 abbrev pub empty : Module
 empty = record { types = gives_number ∷ nothing ∷ []; imports = []; funcs = []; tables = []; mems = []; globals = []; exports = []; start = None; elems = []; datas = [] }
 
@@ -69,7 +69,7 @@ number n = Returned (Number n ∷ [])
 
 -- ---- a constructor that sets a global ----
 
--- a sets the global to 7, b gives what it holds, and c is the global itself
+-- A module in which a sets the global to 7, b returns its value, and c is the global itself.
 abbrev pub setting : Module
 setting = record empty {
   funcs = does (num 7 ∷ i.GlobalSet 0 ∷ []) ∷ gives (i.GlobalGet 0 ∷ []) ∷ [];
@@ -90,7 +90,7 @@ seven_is_asked = Call b [] ∷ (Get (Named c) 0 ∷ (Call a [] ∷ []))
 abbrev pub seven_is_seen : List Event
 seven_is_seen = Linked ∷ (number 7 ∷ (Got (Number 7) ∷ (BadMove ∷ [])))
 
--- the constructor was called, and has no name any more
+-- The constructor was called, and its name is no longer in the view.
 pub after_setting : events_evaluated setting (a ∷ []) [] [] seven_is_asked 20 ≡ seven_is_seen
 unfolding out-Instr denote.Hole.Carrier.out wrapped
 after_setting = refl
@@ -99,19 +99,19 @@ pub setting_left_shows : events (alone setting_left) [] seven_is_asked 20 ≡ se
 unfolding out-Instr denote.Hole.Carrier.out wrapped
 setting_left_shows = refl
 
--- in two steps the view is open
+-- The view is open after two steps.
 the_view_opens_at_once : events_evaluated setting (a ∷ []) [] [] [] 2 ≡ Linked ∷ []
 unfolding out-Instr denote.Hole.Carrier.out wrapped
 the_view_opens_at_once = refl
 
--- where none is evaluated it is the module's own world, in which a can be called
+-- The world without evaluated constructors is that of the module itself, in which a can be called.
 before_setting : events_evaluated setting [] [] [] (Call b [] ∷ (Call a [] ∷ (Call b [] ∷ []))) 20 ≡ Linked ∷ (number 0 ∷ (Returned [] ∷ (number 7 ∷ [])))
 unfolding out-Instr denote.Hole.Carrier.out wrapped
 before_setting = refl
 
 -- ---- a start, where none is evaluated ----
 
--- the start sets the global, in the quiet run and in an environment that offers nothing
+-- A module whose start sets the global, in the quiet run and in an environment that offers nothing.
 abbrev pub starting : Module
 starting = record setting { start = Some 0 }
 
@@ -138,7 +138,7 @@ pub setting_is_kept : evaluated_tree setting (a ∷ []) (a ∷ []) ≡ setting_k
 unfolding declared_snapshot out-Instr denote.Hole.Carrier.out wrapped signed
 setting_is_kept = search (rules, the_lemmas)
 
--- a call of it does nothing
+-- A call of the kept constructor does nothing.
 abbrev pub nine_is_set : List Move
 nine_is_set = Set (Named c) 0 (Number 9) ∷ (Call a [] ∷ (Call b [] ∷ []))
 
@@ -155,7 +155,9 @@ setting_kept_shows = refl
 
 -- ---- a start and two constructors that store ----
 
--- the start stores 5, a stores 42 behind it and c calls a and stores 1 over the 5; b calls the environment's function, and own is the memory
+-- Code that stores a byte in memory 0. In the module below, the start stores 5, a stores 42 behind
+-- it, and c calls a and stores 1 over the 5; b calls the environment's function, and own is the
+-- memory.
 abbrev pub stores : (place value : ℕ) → List Instr
 stores place value = num place ∷ num value ∷ i.Store I32Store8 (record { align = 0; offset = 0; memory = 0 }) ∷ []
 
@@ -192,7 +194,7 @@ pub storing_left_shows : events (alone storing_left) offering bytes_are_read 20 
 unfolding out-Instr denote.Hole.Carrier.out wrapped
 storing_left_shows = refl
 
--- an environment that does not link the module
+-- An environment without offers does not link the module.
 nothing_is_offered : events_evaluated storing (a ∷ c ∷ []) [] [] [] 20 ≡ LinkFault ∷ []
 unfolding out-Instr denote.Hole.Carrier.out wrapped
 nothing_is_offered = refl
@@ -236,7 +238,7 @@ reading_left_shows = refl
 
 -- ---- a passive segment that was not dropped ----
 
--- a does nothing, b copies the segment into the memory, which is c
+-- A module in which a does nothing, b copies the data segment into the memory, and c is the memory.
 abbrev pub filling : Module
 filling = record empty {
   funcs = does [] ∷ does (num 0 ∷ num 0 ∷ num 1 ∷ i.MemoryInit 0 0 ∷ []) ∷ [];

@@ -1,4 +1,5 @@
--- The snapshot is instantiated where the module with one more function is, and none of its segments traps.
+-- The snapshot is instantiated in each environment in which the module with one more function is,
+-- and none of its segments traps.
 use Rattle.base_lists.proofs.Common.{◌≡◌, ◌∙◌, sym, ap, refl, subst, ℕ, zero, suc, ◌+◌, List, [], ◌∷◌, ◌++◌, map, length, false, cond, Option, Some, ⊎_elim, arith, slice_get, length-append, same_Some, all_there_at, and_then_is, append_from, map_from, length-map}
 use Rattle.base_lists.specs.Options.{◌>>=◌}
 use Rattle.wasm_tree_spec.specs.Prelude.{Tables, ConstExpr, ElemMode, ElemSeg, DataSeg, Module, tables_of}
@@ -131,7 +132,6 @@ module _ (constants : ConstantsAloneReadTheEnvironment) (env : Environment) (m :
     both_went : (f : Filled) (g : Store → Filled) → f.trapped ≡ false → (g f.store).trapped ≡ false → (and_then f g).trapped ≡ false
     both_went f g h k = ap (λ b. (cond b f (g f.store)).trapped) h ∙ k
 
-    -- no segment traps
     pub untrapped : SegmentsAloneRunAsCopies → (segments env (one second) (j ∷ []) start).trapped ≡ false
     untrapped run_alone =
         ap (λ (f : Filled). f.trapped) (run_alone env second j 0 0 b.elems b.datas start) ∙ both_went (runs tables start 0 cs) (λ s. runs memories s 0 (data_copies again j second.datas)) elems_went datas_went

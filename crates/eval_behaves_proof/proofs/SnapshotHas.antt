@@ -1,4 +1,5 @@
--- What the snapshot of a module has, and how many addresses of each space it shares with the module in an environment.
+-- The parts of the snapshot of a module, and the number of addresses of each index space that it
+-- shares with the module in an environment.
 use Rattle.base_lists.proofs.Common.{◌≡◌, ◌∙◌, ap, sym, refl, ℕ, suc, ◌+◌, ◌≤◌, List, [], ◌∷◌, length, Bool, true, false, cond, arith, list_any, append-nil, length-append}
 use Rattle.wasm_tree_spec.specs.Prelude.{any_uses_data, Space, Types, Functions, Tables, Memories, Globals, ElementSegments, DataSegments, Func, GlobalDef, Module, imported_globals}
 use Rattle.wasm_meaning.specs.Prelude.{Text, Environment, own_count}
@@ -14,7 +15,7 @@ module _ (m : Module) (s : State) where
   globals_many n (g ∷ gs) = ap suc (globals_many (suc n) gs)
 
 module _ (m : Module) (s : State) (name : Text) (names kept : List Text) where
-  -- before its references are declared
+  -- The snapshot before its references are declared.
   abbrev pub plain : Module
   plain = snapshot_tree m s (name ∷ names) kept
 
@@ -57,7 +58,8 @@ module _ (m : Module) (s : State) (name : Text) (names kept : List Text) where
       let f : length (old_segments m s) ≡ length m.datas = ap (λ b. length (cond b (segments_left s 0 m.datas) [])) uses ∙ none_lost s 0 m.datas in
       omega (arith, e, f)
 
-  -- of data segments those of the module, where code names any
+  -- The addresses of each index space that the module and the snapshot share are those below this
+  -- bound. The data segments of the module are shared if code names any.
   abbrev pub bound : Environment → Space → ℕ
   bound env Types = 0
   bound env Functions = own_count Functions env + length taken.funcs

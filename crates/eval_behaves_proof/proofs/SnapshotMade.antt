@@ -1,4 +1,6 @@
--- In an environment where a module with one more function is instantiated, its snapshot is allocated, its imports match and its names denote what the module's names denote.
+-- The allocation of a snapshot in an environment in which its module with one more function is
+-- instantiated: the imports of the snapshot match, and its names denote what those of the module
+-- denote.
 use Rattle.base_lists.proofs.Common.{◌≡◌, ◌∙◌, sym, ap, ap₂, refl, subst, ℕ, zero, suc, ◌+◌, List, [], ◌∷◌, map, length, Bool, true, false, cond, Some, None, ⊎_elim, arith, slice_get, list_any, length-append, any_passes_from_place, same_Some, chosen_from, all_there_at, all_there_from}
 use Rattle.base_lists.proofs.Common.{all_there_length, length-numbers, places_many, and_then_is, append_at_left, append_from, push_last, length-map, then_rel, is_some_there}
 use Rattle.base_lists.specs.Options.{◌>>=◌}
@@ -25,7 +27,7 @@ use Rattle.eval_behaves_proof.proofs.Shared.{Itself, one_named, same, shares_own
 use Rattle.eval_behaves_proof.proofs.SnapshotHas.{more, plain, refs, shape, bound}
 
 module _ (env : Environment) where
-  -- what is the environment's own, each related to itself
+  -- The number of the environment's own entities, each of which is related to itself.
   abbrev owns : Space → ℕ
   owns k = own_count k env
 
@@ -73,7 +75,7 @@ module _ (env : Environment) (m : Module) (s : State) (name : Text) (names kept 
 
   -- ---- functions ----
 
-  -- behind the functions of the module the snapshot has at most the empty one
+  -- The only function that the snapshot may add to those of the module is the empty one.
   pub last_place : (k : ℕ) (f : tree.Func) → slice_get (more m s name names kept) k ≡ Some f → (k ≡ 0) × (empty_func m ≡ f)
   last_place k f h = by (list_any (λ e. is_kept (name ∷ names) kept e.name) m.exports) k h
     where
@@ -82,7 +84,7 @@ module _ (env : Environment) (m : Module) (s : State) (name : Text) (names kept 
       by true (suc k) h = absurd (let q = h in cc)
       by false k h = absurd (let q = h in cc)
 
-  -- so each function of the snapshot is one of the module with one more
+  -- Each function of the snapshot is one of the module with one more function.
   pub func_also : (n : ℕ) (f : tree.Func) → slice_get second.funcs n ≡ Some f → slice_get first.funcs n ≡ Some f
   func_also n f h =
       ⊎_elim
@@ -135,7 +137,7 @@ module _ (env : Environment) (m : Module) (s : State) (name : Text) (names kept 
       second_store constants declared =
           is_some_there (part_store env (one second) (j ∷ []) 0 second j) (rw ((all_there_from _ second.funcs func_there).are, (all_there_from _ second.globals global_there).are, (all_there_from _ second.elems (elem_there constants declared)).are))
 
-      -- and its imports match
+      -- The imports of the snapshot match.
       pub second_matched : (z : Store) → part_store env (one second) (j ∷ []) 0 second j ≡ Some z →
           all_of (is_matched env (one first) (joined_stores (own_store env) added)) (sites (one first)) ≡ true →
           all_of (is_matched env (one second) (joined_stores (own_store env) z)) (sites (one second)) ≡ true
@@ -171,7 +173,7 @@ module _ (env : Environment) (m : Module) (s : State) (name : Text) (names kept 
         let some_more : length (more m s name names kept) ≡ 1 = ap (λ b. length (cond b (empty_func m ∷ []) [])) (any_passes_from_place (λ e. is_kept (name ∷ names) kept e.name) m.exports n e at h) in
         then_rel (one_named (bound m s name names kept env) env (enough env m s name names kept) (last_shared env m s name names kept i j a b (omega (arith, some_more)))) (λ _ _ r. some (a_func r))
 
-    -- an export that is left
+    -- An export that is left denotes related addresses in both instances.
     export_alike : (n : ℕ) (e x : Export) → slice_get m.exports n ≡ Some e → export_left (name ∷ names) kept (length (funcs_of m)) e ≡ Some x →
         OptRel (ExternalValueRel Q) (address_in i x.desc) (address_in j x.desc)
     export_alike n e x at is = by (is_among_names (name ∷ names) e.name) (is_among_names kept e.name) refl refl is
@@ -190,7 +192,7 @@ module _ (env : Environment) (m : Module) (s : State) (name : Text) (names kept 
     each_alike [] h = nil
     each_alike (e ∷ es) h = cons (then_rel (h 0 e refl) (λ _ _ r. some (record { key = refl; thing = r }))) (each_alike es (λ n. h (suc n)))
 
-    -- the same names, in the same order, for what is related
+    -- The views of both have the same names, in the same order, for related external values.
     pub views_alike : ListRel (λ x y. OptRel (KeyRel Q) (seen_as (i ∷ []) x) (seen_as (j ∷ []) y)) (evaluated_world m (name ∷ names) kept).view (alone second).view
     views_alike =
         let left = exports_left m (name ∷ names) kept in

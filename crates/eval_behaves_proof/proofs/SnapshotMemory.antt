@@ -1,4 +1,5 @@
--- The data segments of a snapshot, copied over zeros, give what the memory holds: the old ones are passive, so that they are not copied.
+-- The data segments of a snapshot, copied over zeros, give the contents of the memory: the old ones
+-- are passive, so that they are not copied.
 use Rattle.base_lists.proofs.Common.{◌≡◌, ◌∙◌, ap, refl, ℕ, suc, ◌≤◌, ◌^◌, List, [], ◌∷◌, ◌++◌, length, Bool, true, false, cond, not, ◌&&◌, Option, Some, option_and_then, slice_get, ℤ, and_parts}
 use Rattle.base_lists.specs.Every.{Every}
 use Rattle.wasm_tree_spec.specs.Prelude.{any_uses_data, ConstExpr, DataMode, DataSeg, Module}
@@ -38,7 +39,7 @@ old_passive m s = by (any_uses_data m.funcs)
     by false = tt
 
 module _ (value : ConstExpr → Option Val) (i : Inst) where
-  -- those that are passive are not copied
+  -- Passive segments are not copied.
   not_copied : (a : ℕ) (ds es : List DataSeg) → Every IsPassive ds → (xs : List ℕ) → all_over a (data_copies value i (ds ++ es)) xs ≡ all_over a (data_copies value i es) xs
   not_copied a [] es h xs = refl
   not_copied a (d ∷ ds) es h xs = ap (λ mode. option_and_then (all_over a (data_copies value i (ds ++ es))) (over a (data_copy value i d mode) xs)) h.0 ∙ not_copied a ds es h.1 xs

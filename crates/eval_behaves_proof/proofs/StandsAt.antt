@@ -1,4 +1,5 @@
--- Indices of what a module defines and their addresses in an environment: which correspond in a quiet run.
+-- Indices of the definitions of a module and their addresses in an environment, which correspond in
+-- a quiet run.
 use Rattle.base_lists.proofs.Common.{◌≡◌, ◌∙◌, ap, refl, ℕ, suc, ◌<◌, ◌≤◌, List, [], ◌∷◌, length, true, false, cond, Option, Some, arith, slice_get, IsTrue, eq-eqb, le-ltb, lt-ltb, length-numbers}
 use Rattle.base_lists.specs.Places.{places}
 use Rattle.wasm_tree_spec.specs.Prelude.{Space, Memories, Globals, DataSegments, Import, ImportDesc, Module, same_space, memories_of, globals_of, space_of_import}
@@ -9,7 +10,7 @@ use Rattle.eval_spec.specs.Prelude.{is_imported, own_inst}
 use Rattle.eval_behaves_proof.specs.Addresses.{addresses_in, names_at, stands_at}
 
 module _ (m : Module) (i : Inst) where
-  -- no import is a data segment
+  -- No import is a data segment.
   no_data : (is : List Import) (n : ℕ) → places (has_kind DataSegments) is n ≡ []
   no_data [] n = refl
   no_data (x ∷ xs) n = ap (λ b. cond b (n ∷ places (has_kind DataSegments) xs (suc n)) (places (has_kind DataSegments) xs (suc n))) (by x.desc) ∙ no_data xs (suc n)
@@ -29,7 +30,7 @@ module _ (m : Module) (i : Inst) where
   pub not_imported : (k : Space) (n : ℕ) → length (imports_of k m) ≤ n → is_imported m k n ≡ false
   not_imported k n le = le-ltb n (length (imports_of k m)) le
 
-  -- what is defined
+  -- A definition corresponds to the address that its index denotes.
   pub global_stands : (n a : ℕ) → length (imports_of Globals m) ≤ n → n < length (globals_of m) → slice_get i.globals n ≡ Some a → IsTrue (stands_at m i Globals n a)
   global_stands n a le lt at =
       let c = length-numbers 0 (length (globals_of m)) in

@@ -1,4 +1,5 @@
--- The instances of a module with one more function and of its snapshot: each index that the module names denotes one address in both, and its code does the same.
+-- The instances of a module with one more function and of its snapshot: each index that the module
+-- names denotes one address in both, and its code does the same.
 use Rattle.base_lists.proofs.Common.{◌≡◌, ◌∙◌, sym, ap, refl, subst, ℕ, ◌+◌, ◌<◌, ◌≤◌, List, [], ◌∷◌, length, true, cond, not, ◌||◌, Option, Some, None, arith, option_and_then, slice_get, length-append, any_passes_from_place, places_many, same_Some, numbers_at, length-map, get_rel, opt_both}
 use Rattle.base_lists.proofs.Common.{opt_self}
 use Rattle.wasm_tree_spec.specs.Prelude.{PassesLayerByLayer, Space, Types, Functions, Tables, Memories, Globals, ElementSegments, DataSegments, ConstExpr, Module, any_uses_data, uses_data, operands, same_space, imported_funcs, imported_tables, imported_memories, imported_globals, funcs_of}
@@ -22,7 +23,7 @@ use Rattle.eval_behaves_proof.proofs.Shared.{Itself, NamesOne, names_one, one_na
 use Rattle.eval_behaves_proof.proofs.SnapshotHas.{bound, datas_more, elems_more, funcs_many, more, more_few, room, shape, left_globals_many}
 use Rattle.eval_behaves_proof.proofs.Zipped.{code_both, every_both}
 
--- what the laws on code, on what is left of a module and on constant expressions say
+-- The laws on code, on what is left of a module and on constant expressions.
 pub record SnapshotLaws : Type 0 where
   pub layers : PassesLayerByLayer
   pub globals : EachGlobalIsLeft
@@ -73,7 +74,7 @@ module _ (env : Environment) (m : Module) (s : State) (name : Text) (names kept 
         let size : length (funcs_of m) ≡ length (imported_funcs m.imports) + length m.funcs = length-append (imported_funcs m.imports) _ ∙ ap (λ z. length (imported_funcs m.imports) + z) f in
         func_one n (omega (arith, lt, size, many))
 
-    -- the function that is added, where the snapshot has it
+    -- The added function has the same address in both, if the snapshot has it.
     pub last_shared : 0 < length (more m s name names kept) → One Functions i.funcs j.funcs (length (funcs_of m))
     last_shared some_more =
         let many = funcs_many m s name names kept in
@@ -165,7 +166,7 @@ module _ (env : Environment) (m : Module) (s : State) (name : Text) (names kept 
     constants_same (const.Func f) h = let x = func_shared f (below (length (funcs_of m)) f h) in rw (x.first, x.second) refl
     constants_same (const.Global x) h = let x = global_shared x (below (length (globals_of m)) x h) in rw (x.first, x.second) refl
 
-    -- they have the same values in both,
+    -- Constant expressions of the module have the same values in both.
     pub values_same : ConstantsAloneReadTheEnvironment → (e : ConstExpr) → ConstNamesOnly (with_entry (each_index m)) e → first_value e ≡ second_value e
     values_same constants e h = constants env first i a e ∙ constants_same e h ∙ sym (constants env second j b e)
 
@@ -188,6 +189,7 @@ module _ (env : Environment) (m : Module) (s : State) (name : Text) (names kept 
         own_value None r e = absurd (let k = e in cc)
         own_value (Some g) r e = subst (λ x. ValRel R x x) (same_Some _ _ e) (opt_self r refl).value
 
-    -- which refer only to functions below the bound
+    -- The value of a constant expression is related to itself: it refers only to functions below
+    -- the bound.
     pub value_itself : ConstantsAloneReadTheEnvironment → (e : ConstExpr) (x : Val) → ConstNamesOnly (with_entry (each_index m)) e → first_value e ≡ Some x → ValRel R x x
     value_itself constants e x h is = constant_itself e x h (sym (constants env first i a e) ∙ is)

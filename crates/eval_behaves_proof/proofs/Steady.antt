@@ -1,4 +1,5 @@
--- What a quiet run leaves as it was in its own store: memories keep their limits and sizes, globals their types, and data segments stay or are dropped.
+-- The parts of its store that a quiet run leaves unchanged: memories keep their limits and sizes,
+-- globals keep their types, and data segments stay or are dropped.
 use Rattle.base_lists.proofs.Common.{◌≡◌, ◌∙◌, sym, ap, refl, subst, ℕ, zero, suc, List, [], ◌∷◌, length, Option, Some, None, ◌⊎◌, inl, inr, slice_get, slice_set, eqb_tells, length-set, same_Some, slice_get_within, true, false, nat_eq, set_at, set_other, overwritten_length}
 use Rattle.base_lists.specs.Related.{EachRelated}
 use Rattle.base_lists.proofs.Related.{each_self, each_then, each_set}
@@ -78,7 +79,7 @@ steady_written s (what.a_data {a = a}) =
 -- ---- steps ----
 
 module _ (writes : StepsWriteWhatTheyTouch) (s : Store) where
-  -- in the store that a step leaves
+  -- The store that a step leaves keeps these parts.
   abbrev LeavesSteady : Next → Type 0
   LeavesSteady (Ran t fs) = Steady s t
   LeavesSteady (CallsOwn p u vs t fs) = Unit {0}
@@ -121,7 +122,7 @@ module _ (writes : StepsWriteWhatTheyTouch) (s : Store) where
 
 -- ---- runs ----
 
--- the stage has such a store, or is stopped
+-- The stage is stopped, or its store keeps these parts.
 abbrev Reaches : Store → Stage → Type 0
 Reaches s (Going t es) = Steady s t.store
 Reaches s (Finished t) = Steady s t.store
@@ -179,7 +180,7 @@ module _ (writes : StepsWriteWhatTheyTouch) (m : Module) where
   started q None = steady_self q.store
   started q (Some func) = called q func
 
-  -- from the instantiation to the end of the constructors
+  -- The quiet run keeps these parts from the instantiation to the end of the constructors.
   pub steady_run : (q t : State) (funcs : List ℕ) → instantiated m MOST_TURNS ≡ Finished q → evaluated m funcs ≡ Finished t → Steady q.store t.store
   steady_run q t funcs is e =
       subst (Reaches q.store) (ap (λ c. called_in_order m (after_start m c m.start) funcs) (sym is) ∙ e) (all_called q.store (after_start m (Finished q) m.start) funcs (started q m.start))

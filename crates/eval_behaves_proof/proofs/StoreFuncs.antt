@@ -1,4 +1,5 @@
--- Functions, tables and element segments of a module and of its snapshot, each alone in an environment: what stands at one address of both is related.
+-- Functions, tables and element segments of a module and of its snapshot, each alone in an
+-- environment: those at the same address in both are related.
 use Rattle.base_lists.proofs.Common.{◌≡◌, ◌∙◌, sym, ap, refl, subst, ℕ, ◌+◌, ◌-◌, ◌<◌, List, Some, inl, inr, ⊎_elim, arith, slice_get, ◌∷◌, cases_lt, same_Some, and_then_is, append_at_left, append_from, slice_get_there, copies_rel, get_rel, both_at, opt_both}
 use Rattle.wasm_tree_spec.specs.Prelude.{Functions, Tables, ElementSegments, Module}
 use Rattle.wasm_tree.specs.declared.module.Func as tree

@@ -1,4 +1,5 @@
--- Globals of the machine's run and of the snapshot: each known one holds its constant's value, and each unknown one what its initialiser gives in both.
+-- Globals of the machine's run and of the snapshot: each known one holds the value of its constant,
+-- and each unknown one holds the value of its initialiser in both.
 use Rattle.base_lists.proofs.Common.{◌≡◌, ◌∙◌, sym, ap, refl, subst, ℕ, zero, suc, ◌+◌, ◌-◌, ◌<◌, List, [], ◌∷◌, length, Bool, true, false, not, ◌||◌, Option, Some, None, inl, inr, arith, slice_get, cases_lt, places_many, length-append, length-map, same_Some, slice_get_within, and_then_is}
 use Rattle.base_lists.proofs.Common.{slice_get_there, get_rel, both_at, opt_both}
 use Rattle.base_lists.specs.Members.{is_among}
@@ -30,7 +31,7 @@ use Rattle.eval_behaves_proof.proofs.SnapshotHas.{shape, left_globals_many, boun
 use Rattle.eval_behaves_proof.proofs.StandsAt.{global_stands, not_imported}
 use Rattle.eval_behaves_proof.proofs.Steady.{Steady}
 
--- what stands at a place stands with its index, counted from a place on
+-- A global of the list is left with its index, counted from `from` on.
 globals_at : (m : Module) (s : State) (from : ℕ) (gs : List GlobalDef) (n : ℕ) (g : GlobalDef) → slice_get gs n ≡ Some g → slice_get (globals_left m s from gs) n ≡ Some (global_left m s (from + n) g)
 globals_at m s from [] n g h = absurd (let k = h in cc)
 globals_at m s from (x ∷ xs) zero g h = let z : from ≡ from + 0 = omega arith in ap (λ k. Some (global_left m s k x)) z ∙ ap (λ x. Some (global_left m s (from + 0) x)) (same_Some _ _ h)
@@ -72,7 +73,7 @@ module _ (constants : ConstantsAloneReadTheEnvironment) (env : Environment) (m :
   many : length (globals_of m) ≡ place + length m.globals
   many = length-append (imported_globals m.imports) _ ∙ ap (λ z. place + z) (length-map m.globals (λ g. g.ty))
 
-  -- the address of the global that is defined at a place
+  -- The address of the global that is defined at a place.
   defined_at : (n : ℕ) → n < length m.globals → slice_get i.globals (place + n) ≡ Some (own + n)
   defined_at n lt =
       let same = left_globals_many m s name names kept in
@@ -83,7 +84,8 @@ module _ (constants : ConstantsAloneReadTheEnvironment) (env : Environment) (m :
   stands : (n : ℕ) → n < length m.globals → ((Run m i).of Globals (place + n) (own + n))
   stands n lt = let c = counted in let all = many in global_stands m i (place + n) (own + n) (omega (arith, c)) (omega (arith, lt, all)) (defined_at n lt)
 
-  -- what is known of the machine's global
+  -- The global of the quiet run and that of the machine: the type of the second, and the relation
+  -- of both values if the global is known.
   record Holds (n : ℕ) (g : GlobalDef) : Type 0 where
     was : Global
     was_is : slice_get e.store.globals (place + n) ≡ Some was
@@ -95,7 +97,7 @@ module _ (constants : ConstantsAloneReadTheEnvironment) (env : Environment) (m :
   holds : (n : ℕ) (g : GlobalDef) → slice_get m.globals n ≡ Some g → Holds n g
   holds n g at = by (slice_get e.store.globals (place + n)) (slice_get after.globals (own + n)) refl refl (related.globals {a = place + n} {b = own + n} (stands n (slice_get_within m.globals n g at)))
     where
-      -- its type is that of the definition
+      -- The type of the global is that of the definition.
       typed : (x : Global) → slice_get e.store.globals (place + n) ≡ Some x → x.ty ≡ g.ty
       typed x h =
           let p = quiet.globals n g at in
@@ -108,7 +110,7 @@ module _ (constants : ConstantsAloneReadTheEnvironment) (env : Environment) (m :
           BothRel (GlobalOff (Run m i) (not (is_among e.unknown.globals (place + n)))) o p → Holds n g
       by _ _ f h (both {a = x} {b = y} r) = record { was = x; was_is = f; now = y; now_is = h; type = sym r.type ∙ typed x f; value_known = r.value }
 
-  -- only its own index denotes an address
+  -- The address of a defined global is denoted only by its own index.
   only_index : (n z : ℕ) → ((Run m i).of Globals z (own + n)) → z ≡ place + n
   only_index n z r =
       let c = counted in
@@ -140,7 +142,8 @@ module _ (constants : ConstantsAloneReadTheEnvironment) (env : Environment) (m :
   abbrev init_left : ℕ → GlobalDef → ConstExpr
   init_left n g = unwrap_or (value_of_global m s (place + n)) g.init
 
-  -- it is related to what the machine's global holds
+  -- The initialiser of the snapshot's global has a value that is related to that of the machine's
+  -- global.
   gives : (n : ℕ) (g : GlobalDef) → slice_get m.globals n ≡ Some g → (h : Holds n g) → (w : Val) × (again (init_left n g) ≡ Some w) × ValRel Q h.now.value w
   gives n g at h = by (value_of_global m s (place + n)) (sym (told.globals (place + n)))
     where
@@ -164,7 +167,7 @@ module _ (constants : ConstantsAloneReadTheEnvironment) (env : Environment) (m :
           let is : w.0 ≡ h.now.value = ap (λ (x : Global). x.value) (same_Some _ _ w.2 ∙ same) in
           (w.0, sym (values_same env m s name names kept i j a b constants g.init init) ∙ w.1, subst (λ x. ValRel Q x w.0) is (value_itself env m s name names kept i j a b constants g.init w.0 init w.1))
 
-  -- so each initialiser of the snapshot has a value
+  -- Each initialiser of the snapshot has a value.
   pub inits_there : EachGlobalIsLeft → (n : ℕ) (g : GlobalDef) → slice_get second.globals n ≡ Some g → (x : Val) × (again g.init ≡ Some x)
   inits_there each_left n g h =
       let k = each_left m s place m.globals n g (ap (λ l. slice_get l n) (sym (shape m s name names kept).globals) ∙ h) in

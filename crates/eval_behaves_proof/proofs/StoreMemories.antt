@@ -1,4 +1,6 @@
--- Memories and data segments of the machine's run and of the snapshot: the defined memory holds what the quiet run left in its own, and a segment is as long as it is there.
+-- Memories and data segments of the machine's run and of the snapshot: the defined memory holds the
+-- bytes that the quiet run left in its memory, and a data segment is as long as that of the quiet
+-- run.
 use Rattle.base_lists.proofs.Common.{◌≡◌, ◌∙◌, sym, ap, refl, ℕ, zero, suc, ◌+◌, ◌*◌, ◌^◌, ◌≤◌, List, [], ◌∷◌, length, Bool, true, false, cond, Option, Some, None, inl, inr, arith, slice_get, cases_lt, length-append, length-map, same_Some, slice_get_within, and_then_is, copies_length}
 use Rattle.base_lists.proofs.Common.{overwritten_length}
 use Rattle.std.specs.Prelude.{unwrap_or}
@@ -40,7 +42,7 @@ module _ (m : Module) (s e q : State) (quiet : Leaves (value_in m) m (own_inst m
   abbrev at : ℕ
   at = length (imported_memories m.imports)
 
-  -- it has the limits that the module says, and holds what is told
+  -- The defined memory has the limits that the module says, and it holds the bytes of the snapshot.
   pub record IsHeld (l : Limits) : Type 0 where
     pub memory : Memory
     pub there : slice_get e.store.mems at ≡ Some memory

@@ -1,4 +1,5 @@
--- The store after the machine's run and that of the snapshot: all that both have stands at the same addresses and is related.
+-- The store after the machine's run and that of the snapshot: all entities that both have are at
+-- the same addresses and are related.
 use Rattle.base_lists.proofs.Common.{◌≡◌, ◌∙◌, sym, ap, refl, subst, ℕ, ◌+◌, ◌-◌, ◌<◌, List, [], length, Bool, true, false, cond, not, ◌&&◌, Option, Some, inl, inr, arith, slice_get, ◌∷◌, cases_lt, length-append, places_many, same_Some, slice_get_within, append_at_left, slice_get_there, numbers_at}
 use Rattle.base_lists.proofs.Common.{same_there, both_at}
 use Rattle.std.specs.Prelude.{unwrap_or}
@@ -119,7 +120,8 @@ module _ (env : Environment) (m : Module) (s : State) (name : Text) (names kept 
 
   -- ---- data segments ----
 
-  -- a segment that the quiet run left, and what the snapshot has in its place
+  -- A data segment that the quiet run left has the bytes of the segment at its place in the
+  -- snapshot.
   left_bytes : (n : ℕ) (d : DataSeg) (x : Data) → slice_get e.store.datas n ≡ Some x → StaysOrDropped (data_left d d.mode) x →
       (data_left (segment_left s n d) (segment_left s n d).mode).bytes ≡ x.bytes
   left_bytes n d x h stays = ap (λ b. (data_left (cond b d emptied) (cond b d emptied).mode).bytes) (ap (λ b. is_passive d.mode && not b) dropped) ∙ by d.mode refl stays

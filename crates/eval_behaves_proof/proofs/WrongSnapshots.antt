@@ -1,4 +1,5 @@
--- Snapshots that are wrong: a trace of one is no trace of the module after its evaluated constructors, by computation.
+-- Wrong snapshots: a trace of each is not a trace of the module after its evaluated constructors,
+-- by computation.
 use Rattle.base_lists.proofs.Common.{◌≡◌, refl, ap, ℕ, List, [], ◌∷◌, Bool, false, None, Some, true≢false, pos, nat_eq, IsTrue}
 use Rattle.wasm_tree.specs.declared.instr.Instr.{out-Instr}
 use Rattle.wasm_tree.specs.declared.instr.Instr.TheVariants as i
@@ -14,7 +15,8 @@ use Rattle.eval_behaves_proof.specs.Laws.{ObservationallyEquivalent}
 use Rattle.eval_behaves_proof.proofs.SmallRuns.{a, c, own, nothing, empty, does, num, exported, mutable_i32, mutable_ref, global, number, setting, setting_left, setting_kept, seven_is_asked, after_setting, nine_is_set, after_setting_kept, storing, storing_left, offering, bytes_are_read}
 use Rattle.eval_behaves_proof.proofs.SmallRuns.{bytes_are_seen, after_storing, reading, reading_left, offering_four, globals_are_read, after_reading, filling, filling_left, it_is_filled, after_nothing}
 
--- Where what is seen of a module in so many steps does not begin what is seen after the constructors in as many, it does not behave so.
+-- A module is not observationally equivalent to another after evaluated constructors if a trace of
+-- it is not a prefix of the trace of the other in as many steps.
 refused : (m : Module) (evaluated kept : List Text) (other : Module) (env : Environment) (moves : List Move) (n : ℕ) (xs ys : List Event) → IsTrue (is_environment env) → IsTrue (links env (alone m)) →
     events_evaluated m evaluated kept env moves n ≡ xs → events (alone other) env moves n ≡ ys → (IsPrefix ys xs → ⊥) → ObservationallyEquivalent m evaluated kept other → ⊥
 refused m evaluated kept other env moves n xs ys is linked shown seen apart same = apart (rw (← seen) (rw (← shown) (same env is linked moves n).1))
@@ -116,7 +118,8 @@ emptying_is_refused = refused filling (a ∷ []) [] emptying [] it_is_filled 20 
 
 -- ---- a segment that holds a number which is no byte ----
 
--- a sets the global to the number that is loaded, which is no i32
+-- A module in which a sets the global to the loaded number. One number of its data segment is not a
+-- byte.
 abbrev loading : Module
 loading = record empty {
   funcs = does (num 0 ∷ i.Load I32Load (record { align = 2; offset = 0; memory = 0 }) ∷ i.GlobalSet 0 ∷ []) ∷ [];
@@ -137,12 +140,12 @@ loading_left_shows : events (alone loading_left) [] (Get (Named c) 0 ∷ []) 20 
 unfolding out-Instr denote.Hole.Carrier.out wrapped signed
 loading_left_shows = refl
 
--- the second event gives this number
+-- The second event gives this number.
 abbrev gives_second : ℕ → List Event → Bool
 gives_second n (e ∷ (Got (Number k) ∷ es)) = nat_eq n k
 gives_second n es = false
 
--- so the law asks that segments hold bytes
+-- The law of equivalence therefore requires that data segments hold bytes.
 loading_left_is_refused : ObservationallyEquivalent loading (a ∷ []) [] loading_left → ⊥
 unfolding out-Instr denote.Hole.Carrier.out wrapped signed
 loading_left_is_refused = refused loading (a ∷ []) [] loading_left [] (Get (Named c) 0 ∷ []) 20 _ _ refl refl after_loading loading_left_shows (λ p. true≢false (ap (gives_second 738197504) p.1))

@@ -1,4 +1,5 @@
--- Code of which two things are so layer by layer; and a list of operands of each of which two things are so.
+-- Code of which two properties hold layer by layer has both together, and so has a list of
+-- operands.
 use Rattle.base_lists.proofs.Common.{List, [], ◌∷◌}
 use Rattle.base_lists.specs.Every.{Every}
 use Rattle.wasm_tree_spec.specs.Prelude.{Operand, Instr, out-Instr, Row_of-Instr, end_of-Instr, more_of-Instr, Layers, RowLayers, ListLayers}

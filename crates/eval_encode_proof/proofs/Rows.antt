@@ -1,4 +1,5 @@
--- A small module of which the law of snapshots speaks: its constructor sets a global to -1. The constant of that value has a sign; without it the number is out of range.
+-- A small module whose constructor sets a global to -1. The constant of that value in the snapshot
+-- has a sign; without it the number is out of range.
 use Rattle.base_lists.proofs.Common.{◌≡◌, refl, arith, pos, negsuc, List, [], ◌∷◌, Bool, true, Some, None, ints}
 use Rattle.wasm_num.specs.Operations.{W32, signed, wrapped}
 use Rattle.wasm_tree_spec.specs.Prelude.{I32, FuncType, GlobalType, Instr, fold_out-Instr, Module, all_pass_step}

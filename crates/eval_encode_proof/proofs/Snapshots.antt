@@ -1,4 +1,4 @@
--- A snapshot has the numbers of its module and those of the state.
+-- The numbers of a snapshot are in range, because they are those of its module and of the state.
 use Rattle.base_lists.proofs.Common.{◌≡◌, ℕ, suc, ◌+◌, ◌-◌, ◌^◌, ◌<◌, ◌≤◌, arith, sym, subst, refl, List, [], ◌∷◌, length, Bool, true, false, not, ◌&&◌, cond, Option, Some, None, slice_get, unwrap_or, inl, inr, IsUtf8, list_any, cons_option, cases_lt, lt-ltb, le-ltb, ints, slice_get_within}
 use Rattle.base_lists.proofs.Common.{place_back}
 use Rattle.base_lists.proofs.Every.{every_of, every_placed, every_map, every_append}
@@ -23,7 +23,8 @@ use Rattle.eval_snapshot_spec.specs.Contents.{Stretch, contents, is_joined, is_n
 use Rattle.eval_snapshot_spec.specs.Evaluated.{funcs_named}
 use Rattle.eval_snapshot_spec.specs.Snapshot.{added_funcs, declared_snapshot, emptied, empty_func, export_left, global_left, indexed, is_among_names, is_kept, is_passive, memory_segments, old_segments, segment_left, segments_left, snapshot, snapshot_tree}
 
--- the numbers that are no indices, and the names, of what changes
+-- The items that differ in a snapshot: their numbers that are not indices are in range, and their
+-- names are in UTF-8.
 abbrev GlobalIn : GlobalDef → Type 0
 GlobalIn g = ConstNumberInRange g.init
 
@@ -35,7 +36,8 @@ Named e = IsUtf8 e.name
 
 -- ---- constants ----
 
--- the signed reading of a number is one of so many bits
+-- The signed reading of a number below 2 ^ bits is in the range of signed numbers of that many
+-- bits.
 signed_within : (bits n half : ℕ) → 2 ^ (bits - 1) ≡ half → 2 ^ bits ≡ half + half → n < 2 ^ bits → IsWithin bits (signed bits n)
 unfolding signed
 signed_within bits n half e f lt = elim (cases_lt n (2 ^ (bits - 1))) [
@@ -182,7 +184,8 @@ snapshot_numbers own declared globals memories m s evaluated kept v h begins aft
 
 -- ---- where no constructor is evaluated, and where some are ----
 
--- what the law says of a snapshot
+-- The statement of the law for one module: it is in range if it is valid, has at most one memory
+-- and is bounded.
 abbrev pub IsInRangeIfValid : Module → Type 0
 IsInRangeIfValid t = IsValid t → IsSingle t → IsBounded t → InRange t
 

@@ -1,4 +1,5 @@
--- What is spelled by bytes has bytes in its data segments, and small tables.
+-- A module that bytes encode has bytes in its data segments, and its tables have fewer than 2 ^ 32
+-- slots.
 use Rattle.base_lists.proofs.Common.{ℕ, zero, suc, ◌^◌, ◌<◌, List, [], ◌∷◌, Bool, true, false, sym, subst, arith, ◌==◌}
 use Rattle.base_lists.specs.Every.{Every}
 use Rattle.wasm_bytes.specs.Prelude.{Section, Each, Sized, U32, Vector, IsBytes, Framed}
@@ -22,7 +23,7 @@ use Rattle.eval_numbers_proof.specs.Ranges.{BeginsInRange, IsByte}
 abbrev FewSlots : Limits → Type 0
 FewSlots l = l.min < 2 ^ 32
 
--- what the law says of numbers that bytes encode
+-- The law that numbers that bytes encode are in range.
 abbrev NumbersAreInRange : Type 0
 NumbersAreInRange = (bits : ℕ) (text : List ℕ) (n : ℕ) → Unsigned bits text n → n < 2 ^ bits
 
@@ -119,6 +120,6 @@ module _ (numbers : NumbersAreInRange) (many : Bool) where
 parts_begin : (p : Parts) → PartsBegin p → BeginsInRange (tree_of p)
 parts_begin p r = record { tables = r.tables; datas = r.datas }
 
--- the contents of frames of bytes are bytes
+-- The second premise is the law that the contents of sections of bytes are bytes.
 pub spelled_begin : NumbersAreInRange → ((bytes : List ℕ) (ss : List Section) → IsBytes bytes → Framed bytes ss → AreBytes ss) → (bytes : List ℕ) (m : Module) (many : Bool) → IsBytes bytes → Spells bytes m many → BeginsInRange m
 spelled_begin numbers contents bytes m many small h = subst BeginsInRange (sym h.5) (parts_begin h.1 (contents_begin numbers many nothing h.0 h.1 (contents bytes h.0 small h.2) (record { tables = tt; datas = tt }) h.3))

@@ -1,4 +1,4 @@
--- Calls in order, and one more.
+-- Calls in order, and the calls of a list with one more function.
 use Rattle.base_lists.proofs.Common.{◌≡◌, ◌∙◌, ℕ, List, [], ◌∷◌, ◌++◌, refl, sym, ap}
 use Rattle.wasm_tree_spec.specs.Prelude.{Module}
 use Rattle.eval_spec.specs.declared.limits.TheConstants.{MOST_TURNS}

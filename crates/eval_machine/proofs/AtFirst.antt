@@ -14,7 +14,7 @@ use Rattle.eval_machine.specs.Prelude.{global_of, is_of_import, is_unset}
 use Rattle.eval_machine.proofs.FirstGlobals.{zero_global}
 use Rattle.eval_machine.proofs.Imports.{globals_many}
 
--- ---- which are not set ----
+-- ---- which globals are unknown ----
 
 places_append : {A : Type 0} (f : A → Bool) (xs ys : List A) (i : ℕ) → places f (xs ++ ys) i ≡ places f xs i ++ places f ys (i + length xs)
 places_append f [] ys i = let z : i ≡ i + 0 = omega arith in ap (places f ys) z

@@ -1,4 +1,4 @@
--- What a call comes to when it begins.
+-- The step that begins a call, and the stage to which it leads.
 use Rattle.base_lists.proofs.Common.{◌≡◌, ℕ, ◌+◌, ◌-◌, ◌/◌, arith, List, length, slice_get, Bool, true, false, Option, Some, None, refl, sym, ap, ◌∙◌, ◌⊎◌, inl, inr, nat_le, nat_lt, cases_lt, same_Some, slice_get_within, numbers_is, slice_get_there}
 use Rattle.wasm_tree_spec.specs.Prelude.{ValType, FuncType, Instr, out-Instr, Module, funcs_of, imported_funcs}
 use Rattle.wasm_tree.specs.declared.instr.Instr.TheVariants as i
@@ -14,7 +14,7 @@ use Rattle.eval_machine.proofs.Funcs.{FuncsAre, funcs_now_are, funcs_size}
 use Rattle.eval_machine.proofs.Imports.{address_of}
 use Rattle.eval_machine.proofs.Instructions.{by_layer}
 
--- a function is the environment's own, or code of the module's instance
+-- A function is the environment's own, or code of the module's instance.
 abbrev pub IsEither : Module → Func → Type 0
 IsEither m x = ((q : Pair × FuncType) × (x ≡ Own q.0 q.1)) ⊎ ((q : FuncType × List ValType × List Instr) × (x ≡ Code q.0 (own_inst m) q.1 q.2))
 

@@ -1,4 +1,4 @@
--- What a `select` comes to, and a value that is written to a local or a global.
+-- The result of a `select`, and of writing a value to a local or a global.
 use Rattle.base_lists.proofs.Common.{◌≡◌, ℕ, zero, suc, List, [], ◌∷◌, map, true, false, Some, None, Ok, Err, refl, ap, slice_get, slice_set, map_at}
 use Rattle.wasm_tree_spec.specs.Prelude.{same_type}
 use Rattle.wasm_num.specs.Operations.{W32}
@@ -25,7 +25,7 @@ set_mapped f [] n v = refl
 set_mapped f (x ∷ xs) zero v = refl
 set_mapped f (x ∷ xs) (suc n) v = ap (λ l. f x ∷ l) (set_mapped f xs n v)
 
--- a local that is there is set to a value of its type
+-- A local is set to a value of its type.
 pub set_at : (xs : List Value) (n : ℕ) (old v : Value) → slice_get xs n ≡ Some old → same_type (type_of (val_of old)) (type_of (val_of v)) ≡ true → ended (local_written (map val_of xs) n (val_of v)) ≡ Ok (map val_of (slice_set xs n v))
 set_at xs n old v e f = rw (map_at val_of xs n old e, f) (ap Ok (set_mapped val_of xs n v))
 

@@ -1,4 +1,4 @@
--- Items that are copied one after the other.
+-- The items of an element segment, as they are copied one after the other.
 use Rattle.base_lists.proofs.Common.{◌≡◌, ℕ, ◌+◌, ◌-◌, ◌<◌, List, Bool, true, false, cond, ◌&&◌, Option, Some, refl, sym, ap, ◌∙◌, inl, inr, arith, nat_eq, nat_le, nat_lt, slice_get, cases_order, lt-ltb, le-ltb, le-leb, eq-eqb, ne_eqb}
 use Rattle.base_lists.specs.Options.{◌>>=◌}
 use Rattle.wasm_tree_spec.specs.Prelude.{ConstExpr}

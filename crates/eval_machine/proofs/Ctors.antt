@@ -1,4 +1,4 @@
--- A call between a mark and what commits or takes back.
+-- The call of a constructor, between the mark before it and the commit or rollback after it.
 use Rattle.base_lists.proofs.Common.{◌≡◌, ℕ, List, [], ◌∷◌, map, length, length-map, Bool, Option, Some, None, refl, sym, ap, ◌∙◌, arith, slice_get, subst, min, same_Some}
 use Rattle.wasm_tree_spec.specs.Prelude.{Limits, Module}
 use Rattle.wasm_valid.specs.Prelude.{IsValid}
@@ -15,7 +15,7 @@ use Rattle.eval_machine.specs.Marks.{AreMarked, IsMarked, KeepsMarked, NothingTo
 use Rattle.eval_machine.proofs.References.{still_rests}
 use Rattle.eval_machine.proofs.Stays.{fits_still}
 
--- the same bytes and written blocks, of which as many may be written
+-- The pages have the same bytes and written blocks, and as many blocks may be written.
 abbrev pub Alike : Option Pages → Option Pages → Type 0
 Alike None None = Unit {0}
 Alike (Some p) (Some q) = (q.now ≡ p.now) × (q.most ≡ p.most)
@@ -102,7 +102,7 @@ rolled_unmarked None (Some q) a = elim a [ ]
 rolled_unmarked (Some p) None a = elim a [ ]
 rolled_unmarked (Some p) (Some q) a = a.cleared
 
--- the globals and data segments at the mark, which a call does not change
+-- The globals and data segments at the mark, which a call does not change.
 before_globals : (marked after : Kept) → NothingToUndo marked.undo → Stays marked after → AreGlobalsBefore after.undo.globals after.globals marked.globals
 before_globals marked after none stays = record {
   many = sym (sym (length-map after.globals (λ g. g.ty)) ∙ (ap length stays.types ∙ length-map marked.globals (λ g. g.ty)));
@@ -134,7 +134,7 @@ module _ (m : Module) (func : ℕ) (old marked : Kept) (rests : Rests m old) (on
     pub still_noted : FlagsAreRight after.undo.globals after.undo.noted
     still_noted = stays.undo.flags none.flags
 
-    -- it was done
+    -- The call comes to its end, and its writes are committed.
     module _ (rest : new ≡ record after { memory = new.memory }) (keeps : KeepsMarked after.memory new.memory) where
       pub done : CallEnds m func marked None after → CallEnds m func old None new
       done ends =
@@ -147,7 +147,7 @@ module _ (m : Module) (func : ℕ) (old marked : Kept) (rests : Rests m old) (on
           let fits = machine_fits m after new (fits_still m marked after marked_fits stays) (ap (λ k. k.globals) rest) (ap (λ k. k.dropped) rest) (kept_alike after.memory new.memory keeps) (ap (λ k. k.slots) rest) (ap (λ k. k.imports) rest) noted in
           still_rests m valid refs types old new func rests fits (kept_unmarked after.memory new.memory keeps) (done ends)
 
-    -- it was not
+    -- The call is stopped, and its writes are rolled back.
     module _ (rest : new ≡ record after { memory = new.memory; globals = new.globals; dropped = new.dropped; undo = new.undo }) (rolls : RollsMarked after.memory new.memory)
         (globals_back : (gs : List GlobalSlot) → AreGlobalsBefore after.undo.globals after.globals gs → new.globals ≡ gs) (segments_back : (flags : List Bool) → AreSegmentsBefore after.undo.dropped after.dropped flags → new.dropped ≡ flags) where
       alike : Alike old.memory new.memory

@@ -1,4 +1,4 @@
--- Data segments: their bytes, and data.drop.
+-- The bytes of data segments, and the instruction data.drop.
 use Rattle.base_lists.proofs.Common.{◌≡◌, ℕ, arith, List, [], ◌∷◌, ◌++◌, length, subst, slice_get, slice_set, Bool, true, false, Option, Some, None, refl, sym, ap, ◌∙◌, nat_lt, le-ltb, slice_get_past, slice_get_within, length-numbers, length-set, none_past}
 use Rattle.wasm_tree_spec.specs.Prelude.{DataSegments, ImportDesc, Module, Instr, same_space, space_of_import}
 use Rattle.wasm_tree.specs.declared.module.ImportDesc.TheVariants as im
@@ -46,15 +46,15 @@ module _ (m : Module) (k : Kept) (f : MachineFits m k) (n : ℕ) (vs : List Val)
       by_layer m now (i.DataDrop n) (Instr-F.DataDrop n) rest p es _ (i.outs-DataDrop n) (still m now (i.DataDrop n) (Instr-F.DataDrop n) rest p es (drop_still ls rest p es (Some n) at) (done_by m now (Instr-F.DataDrop n) rest p)
       ∙ rw done (ap (λ a. Going (record (state_in m k) { store = record (store_in m k) { datas = a } }) (Running (frame_at m now rest p) ∷ es)) (data_dropped m.datas k.dropped n)))
 
-  -- a segment that was dropped before
+  -- A segment that was dropped before may be dropped again.
   pub drop_again : slice_get k.dropped n ≡ Some true → BeginsWith m (i.DataDrop n) k vs None k vs
   drop_again e = subst (λ ds. BeginsWith m (i.DataDrop n) k vs None (record k { dropped = ds }) vs) (set_same k.dropped n true e) (drop_goes true e)
 
-  -- the undo log does not change what `data.drop` does
+  -- The undo log does not change what `data.drop` does.
   pub drop_noted : (undo : UndoLog) → slice_get k.dropped n ≡ Some false → BeginsWith m (i.DataDrop n) k vs None (record k { dropped = slice_set k.dropped n true; undo = undo }) vs
   drop_noted undo e = drop_goes false e
 
--- ---- what stays where a segment is dropped ----
+-- ---- what a dropped segment leaves unchanged ----
 
 pub dropping_stays : (k : Kept) (undo : UndoLog) (n : ℕ) → slice_get k.dropped n ≡ Some false → undo ≡ record k.undo { dropped = k.undo.dropped ++ n ∷ [] } → Stays k (record k { dropped = slice_set k.dropped n true; undo = undo })
 dropping_stays k undo n at is = record {

@@ -11,7 +11,6 @@ length_copies : (n : ℕ) (t : ValType) → length (copies n t) ≡ n
 length_copies zero t = refl
 length_copies (suc n) t = ap suc (length_copies n t)
 
--- with one more group
 pub declared_many : (g : LocalGroup) (gs : List LocalGroup) → length (declared (g ∷ gs)) ≡ g.count + length (declared gs)
 declared_many g gs = length-append (copies g.count g.ty) (declared gs) ∙ ap (λ n. n + length (declared gs)) (length_copies g.count g.ty)
 
@@ -19,7 +18,8 @@ pub zeros_append : (ts us : List ValType) → zeros (ts ++ us) ≡ zeros ts ++ z
 zeros_append [] us = refl
 zeros_append (t ∷ ts) us = ap (λ l. zero_of t ∷ l) (zeros_append ts us)
 
--- from a place on, with the group there
+-- The locals of the groups from a place on are those of the group there, and then those of the
+-- groups after it.
 pub declared_drop : (gs : List LocalGroup) (i : ℕ) (g : LocalGroup) (n : ℕ) → i < length gs → n ≡ (get_or gs i g).count → length (declared (drop i gs)) ≡ n + length (declared (drop (i + 1) gs))
 declared_drop gs i g n lt e =
     let s : i + 1 ≡ suc i = omega arith in rw (e, s) (ap (λ l. length (declared l)) (drop-cons gs i g lt) ∙ declared_many (get_or gs i g) (drop (suc i) gs))

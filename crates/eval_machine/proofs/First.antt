@@ -1,4 +1,4 @@
--- The state at first of a valid module, in which nothing was copied yet.
+-- The state of a valid module before any segment is copied.
 use Rattle.base_lists.proofs.Common.{◌≡◌, ℕ, zero, suc, ◌+◌, ◌-◌, ◌*◌, ◌<◌, List, [], map, length, Bool, true, false, cond, ◌&&◌, not, Option, Some, None, refl, sym, ap, ◌∙◌, inl, inr, arith, subst, nat_lt, slice_get, cases_lt, lt-ltb, le-ltb, ltb-true, length-map, same_Some, slice_get_within}
 use Rattle.base_lists.proofs.Common.{and_then_is, all_there_at, all_there_from, left_true, numbers_at, append_left, append_right, map_at, slice_get_there, copies_length}
 use Rattle.base_lists.specs.Options.{◌>>=◌, all_there}
@@ -32,7 +32,7 @@ only_is : {A : Type 0} (b : Bool) (o : Option A) (x : A) → only b o ≡ Some x
 only_is true o x e = (refl, e)
 only_is false o x e = absurd (let k = e in cc)
 
--- a global that is read has the zero of its type
+-- An imported global has the zero of its type.
 zero_read : (m : Module) (x : ℕ) (t : GlobalType) → slice_get (globals_of m) x ≡ Some t → x < length (imported_globals m.imports) → value_in m (const.Global x) ≡ Some (zero_of t.ty)
 zero_read m x t at lt =
     let z : 0 + x ≡ x = omega arith in
@@ -41,7 +41,7 @@ zero_read m x t at lt =
     let there : slice_get (imported_store m).globals x ≡ Some (record { ty = t; value = zero_of t.ty }) = map_at (λ t. record { ty = t; value = zero_of t.ty }) (imported_globals m.imports) x t here in
     rw (address, there) refl
 
--- an expression of a type has a value of it
+-- A constant expression has a value of its type.
 pub const_value_is : (m : Module) (x : ConstExpr) (t : ValType) → const_type m x ≡ Some t → (v : Val) × (value_in m x ≡ Some v) × (type_of v ≡ t)
 const_value_is m (const.I32 n) t e = (Num W32 (wrapped 32 n), refl, same_Some valt.I32 t e)
 const_value_is m (const.I64 n) t e = (Num W64 (wrapped 64 n), refl, same_Some valt.I64 t e)
@@ -58,7 +58,7 @@ const_value_is m (const.Global x) t e =
     let k = only_is (nat_lt x (length (imported_globals m.imports)) && not g.0.mutable) (Some g.0.ty) t g.2 in
     (zero_of g.0.ty, zero_read m x g.0 g.1 (ltb-true x (length (imported_globals m.imports)) (left_true _ _ k.0)), zero_type g.0.ty ∙ same_Some g.0.ty t k.1)
 
--- a global's initialiser that is a `global.get` has the zero of the global's type
+-- An initialiser that is a `global.get` has the zero of its type.
 pub reads_zero : (m : Module) (x : ℕ) (t : ValType) → const_type m (const.Global x) ≡ Some t → value_in m (const.Global x) ≡ Some (zero_of t)
 reads_zero m x t e =
     let g = and_then_is (slice_get (globals_of m) x) (λ g. only (nat_lt x (length (imported_globals m.imports)) && not g.mutable) (Some g.ty)) t e in
@@ -77,7 +77,7 @@ is_ref (Num W32 n) r e = absurd (let k = e in cc)
 is_ref (Num W64 n) r e = absurd (let k = e in cc)
 is_ref (Ref x) r e = (x, refl)
 
--- ---- the store at first ----
+-- ---- the store before any segment is copied ----
 
 abbrev pub store_at_first : Module → List Func → List Global → List Elem → Store
 store_at_first m funcs globals elems = record {
@@ -120,7 +120,7 @@ module _ (m : Module) (hold : ItemsHold m) where
           let k = all_there_from (λ x. value_in m x >>= ref_of) e.items (item e typed) in
           (new_elem e.mode k.results, rw k.are refl)
 
--- ---- what it has ----
+-- ---- the parts of the store ----
 
 abbrev no_slots : TableType → Table
 no_slots t = record { ty = t.ty; most = t.limits.max; slots = [] }

@@ -34,7 +34,7 @@ there_push {A = A} {B = B} f (z ∷ xs) x ys y e g = by (f z) (all_there f xs) r
     by (Some w) None is h on = absurd (let k = h in cc)
     by (Some w) (Some zs) is h on = let same : w ∷ zs ≡ ys = same_Some (w ∷ zs) ys h in rw (on zs is) (ap (λ v. Some (v ++ y ∷ [])) same)
 
--- the first so many of the globals that are defined
+-- The slots of the first `i` defined globals.
 pub record AreDefined (m : Module) (i : ℕ) (slots : List GlobalSlot) : Type 0 where
   pub globals : all_there (global_with (value_in m)) (take i m.globals) ≡ Some (map global_of slots)
   pub standings : map (λ g. g.standing) slots ≡ map (λ d. standing_of d.init) (take i m.globals)
@@ -48,7 +48,7 @@ one_defined m slots i d g at ty value stands are =
       standings = rw (take_one m.globals i d at, map-append (λ g. g.standing) slots (g ∷ []), map-append (λ d. standing_of d.init) (take i m.globals) (d ∷ [])) (ap₂ (λ x y. x ++ y ∷ []) are.standings stands);
     }
 
--- the globals among the first so many imports
+-- An imported global, whose value is the zero of its type.
 abbrev pub zero_global : GlobalType → Global
 zero_global t = record { ty = t; value = zero_of t.ty }
 
@@ -101,7 +101,7 @@ few_pages [] l at few = absurd (let k = at in cc)
 few_pages (x ∷ []) l at few = rw (← same_Some x l at) few
 few_pages (x ∷ y ∷ ls) l at few = elim few [ ]
 
--- ---- as a loop keeps them ----
+-- ---- loop invariants ----
 
 pub kept_defined : (m : Module) (slots new : List GlobalSlot) (i : ℕ) (zs : List GlobalDef) (d : GlobalDef) (g : GlobalSlot) → zs ≡ m.globals → i < length zs → ((n : ℕ) (d : GlobalDef) → slice_get m.globals n ≡ Some d → const_type m d.init ≡ Some d.ty.ty) →
     g.ty ≡ (get_or zs i d).ty → g.standing ≡ standing_of (get_or zs i d).init → ((m : Module) → const_type m (get_or zs i d).init ≡ Some (get_or zs i d).ty.ty → value_in m (get_or zs i d).init ≡ Some (val_of g.value)) →

@@ -1,4 +1,4 @@
--- Quiet steps of levels that are opened, of frames and of calls, as the machine makes them.
+-- The quiet steps of opened levels, of frames and of calls, as the machine makes them.
 use Rattle.base_lists.proofs.Common.{◌≡◌, ℕ, zero, suc, ◌+◌, ◌-◌, ◌/◌, ◌<◌, ◌≤◌, arith, List, [], ◌∷◌, ◌++◌, length, drop, get_or, slice_get, Bool, true, false, Option, Some, None, refl, sym, ap, ◌∙◌, subst, nat_le, nat_lt, lt-leb, lt-ltb, le-ltb}
 use Rattle.wasm_tree_spec.specs.Prelude.{ValType, FuncType, Instr, Module}
 use Rattle.wasm_meaning.specs.Prelude.{Outcome, Gives, Traps, IllTyped, bind, onto, or_ill_typed, split_at, Pair, Val, Code, Own, Entry, Running, Act, Ends, Next, pop_typed, zeros, give, perform}
@@ -45,11 +45,11 @@ code_end (y ∷ ys) (suc i) le = code_end ys i (omega (arith, le))
 -- ---- a level ----
 
 module _ (m : Module) (r : Registers) (b : Opening) (o : Instr) (rest : List Instr) (p : LevelPlace) (es : List Entry) where
-  -- the level inside, over these operands
+  -- The level that the instruction opens, over these operands.
   abbrev pub level_in : (below : List Val) → LevelPlace
   level_in below = inner b.gives b.takes (back_of o b.again) below rest p
 
-  -- it is opened, and its code runs
+  -- The level is opened, and its code runs.
   pub level_runs : (vs below top : List Val) (new : Registers) (flow : Flow) (d : ℕ) (u : Stage) → depth p es ≡ d → d < MOST_DEPTH → pop_typed b.params.now r.operands ≡ Gives (vs, below) → top ≡ onto vs [] →
       RunsCode m b.body.now (d + 1) (record r { operands = top }) flow new → ComesTo m (outcome m flow new (level_in below) es) u → ComesTo m (opened_by m r b o rest p es) u
   level_runs vs below top new flow d u e lt cut is runs q =
@@ -76,7 +76,7 @@ abbrev pub with_turns : Registers → ℕ → Registers
 with_turns r n = record r { kept = record r.kept { turns = n } }
 
 module _ (m : Module) (r : Registers) (ty : FuncType) (args : List Val) (locals : List ValType) (body : List Instr) (es : List Entry) where
-  -- it is entered, and its code runs
+  -- The frame is entered, and its code runs.
   pub frame_runs : (left : ℕ) (inside new : Registers) (code : List Instr) (flow : Flow) (d : ℕ) (u : Stage) → stack_depth es ≡ d → d < MOST_DEPTH → length locals / 64 ≤ r.kept.turns → left ≡ r.kept.turns - length locals / 64 →
       inside ≡ record { kept = record r.kept { turns = left }; operands = []; locals = args ++ zeros locals } → code ≡ body → RunsCode m code (d + 1) inside flow new →
       ComesTo m (outcome m flow new (body_place ty.results) es) u → ComesTo m (entered m r ty args locals body es) u
@@ -89,7 +89,7 @@ module _ (m : Module) (r : Registers) (ty : FuncType) (args : List Val) (locals 
   pub entered_deep : (left : ℕ) → length locals / 64 ≤ r.kept.turns → stack_depth es ≡ MOST_DEPTH → left ≡ r.kept.turns - length locals / 64 → ComesTo m (entered m r ty args locals body es) (Stopped why.Depth left)
   entered_deep left le e f = rw (enough r.kept.turns (length locals / 64) le, deep (stack_depth es) e, f) here
 
--- the frame ends with those of its operands that are its results
+-- The stage after the frame ends, with those of its operands that are its results.
 abbrev pub ended_with : Module → Registers → List ValType → List Entry → Stage
 ended_with m r results es = came_to (state_in m r.kept) (bind (pop_typed results r.operands) (λ p. give (store_in m r.kept) p.0 es))
 
@@ -107,7 +107,8 @@ module _ (m : Module) (r : Registers) (results : List ValType) (es : List Entry)
   abbrev acts_on : Act → Outcome Next
   acts_on = perform (store_in m r.kept) (frame_at m r [] (body_place results)) es
 
-  -- as many values as there are results are taken off first
+  -- The end of the frame gives the same if as many operands as there are results are taken off
+  -- before they are taken by their types.
   cut_down : bind (bind (or_ill_typed (split_at (length results) r.operands)) (λ q. Gives (Ends q.0))) acts_on ≡ bind (pop_typed results r.operands) (λ p. give (store_in m r.kept) p.0 es)
   cut_down = bind_twice (or_ill_typed (split_at (length results) r.operands)) (λ q. Ends q.0) acts_on ∙ results_cut (λ xs. give (store_in m r.kept) xs es) results r.operands
 
@@ -121,7 +122,8 @@ module _ (m : Module) (r : Registers) (results : List ValType) (es : List Entry)
   frame_left : (n : ℕ) → n ≡ 0 → outcome m (flow.Branch n) r (body_place results) es ≡ ended_with m r results es
   frame_left n e = rw e (ap (came_to (state_in m r.kept)) cut_down)
 
-  -- its code is left for its end
+  -- The code of the frame leads to the end of the frame: it runs out, branches to its label or
+  -- returns.
   abbrev pub EndsFrame : Flow → Type 0
   EndsFrame flow.Fell = Unit {0}
   EndsFrame (flow.Branch n) = n ≡ 0

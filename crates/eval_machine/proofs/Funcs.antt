@@ -1,4 +1,5 @@
--- The functions of a module that is instantiated: those that are imported, and then the code of those that it defines.
+-- The functions of an instantiated module: the imported ones, and then the code of those that it
+-- defines.
 use Rattle.base_lists.proofs.Common.{◌≡◌, ℕ, zero, suc, ◌+◌, ◌-◌, ◌<◌, ◌≤◌, arith, List, [], ◌∷◌, ◌++◌, length, map, slice_get, Bool, true, false, cond, Option, Some, None, refl, sym, ap, ◌∙◌, subst, nat_lt, filter_map, length-append, length-map, none-some, same_Some, slice_get_past, all_there_at}
 use Rattle.base_lists.proofs.Common.{all_there_length, append_left, append_right, slice_get_there, none_past}
 use Rattle.std.specs.Prelude.{unwrap_or}
@@ -18,7 +19,7 @@ use Rattle.eval_machine.specs.declared.kept.Kept.{Kept}
 use Rattle.eval_machine.specs.Prelude.{MachineFits, store_in}
 use Rattle.eval_machine.specs.Kept.{base_of, no_state}
 
--- ---- segments leave functions as they are ----
+-- ---- segments leave functions unchanged ----
 
 abbrev HasFuncs : List Func → Stage → Type 0
 HasFuncs fs (Finished s) = s.store.funcs ≡ fs
@@ -37,7 +38,7 @@ module _ (fs : List Func) where
   bytes_filled s e a m None h = h
   bytes_filled s e a m (Some bytes) h = h
 
-  -- something that has them, or the store as it was
+  -- A result that has these functions, or else the store before it, which has them too.
   or_trapped_has : (s : Store) (o : Option Filled) → s.funcs ≡ fs → ((f : Filled) → o ≡ Some f → f.store.funcs ≡ fs) → (or_trapped s o).store.funcs ≡ fs
   or_trapped_has s None h k = h
   or_trapped_has s (Some f) h k = k f refl
@@ -110,9 +111,9 @@ module _ (m : Module) (fs : List Func) where
       in_order_has (with_data m) (λ s x k. with_data_has s x x.segment.mode k) (in_order (with_elem m) (Finished s) (segments_in 0 (own_inst m) (own_inst m).elems m.elems)) (segments_in 0 (own_inst m) (own_inst m).datas m.datas)
       (in_order_has (with_elem m) (λ s x k. with_elem_has s x x.segment.mode k) (Finished s) (segments_in 0 (own_inst m) (own_inst m).elems m.elems) h)
 
--- ---- the functions at first ----
+-- ---- the functions before any segment is copied ----
 
--- the imports, and then the code of each function that is defined
+-- The functions are the imported ones, and then the code of each function that the module defines.
 pub record FuncsBegin (m : Module) (fs : List Func) : Type 0 where
   pub defined : List Func
   pub code : all_there (new_func (own_inst m)) m.funcs ≡ Some defined
@@ -157,7 +158,7 @@ module _ (m : Module) where
 -- ---- each function ----
 
 module _ (m : Module) where
-  -- each is the environment's own
+  -- The function is the environment's own, as each import is.
   abbrev IsOwn : Func → Type 0
   IsOwn f = (q : Pair × FuncType) × (f ≡ Own q.0 q.1)
 
@@ -180,17 +181,18 @@ module _ (m : Module) where
   import_own [] n f e = absurd (let k = e in cc)
   import_own (i ∷ is) n f e = own_at_import i is f (func_of i.desc) refl (λ k. import_own is k f) n e
 
--- the imports come first
+-- The functions of a module are its imports and its definitions.
 pub funcs_size : (m : Module) → length (funcs_of m) ≡ length (imported_funcs m.imports) + length m.funcs
 funcs_size m = length-append (imported_funcs m.imports) (map (λ f. f.ty) m.funcs) ∙ ap (λ k. length (imported_funcs m.imports) + k) (length-map m.funcs (λ f. f.ty))
 
--- what the machine needs of the functions
+-- The properties of the functions that the machine needs.
 pub record FuncsAre (m : Module) (fs : List Func) : Type 0 where
   pub many : length fs ≡ length (funcs_of m)
   pub own : (n : ℕ) → n < length (imported_funcs m.imports) → (q : Pair × FuncType) × (slice_get fs n ≡ Some (Own q.0 q.1))
   pub code : (n : ℕ) (f : FuncDef) → slice_get m.funcs n ≡ Some f → (t : FuncType) × (slice_get m.types f.ty ≡ Some t) × (slice_get fs (length (imported_funcs m.imports) + n) ≡ Some (Code t (own_inst m) (declared f.locals) f.body))
 
--- what a defined function is
+-- A defined function is code of the module's instance, with the type and the locals that it
+-- declares.
 code_of : (m : Module) (f : FuncDef) (o : Option FuncType) (y : Func) → slice_get m.types f.ty ≡ o → new_func (own_inst m) f ≡ Some y → (t : FuncType) × (slice_get m.types f.ty ≡ Some t) × (y ≡ Code t (own_inst m) (declared f.locals) f.body)
 code_of m f None y e g = absurd (let k = rw e at g in cc)
 code_of m f (Some t) y e g = let k = rw e at g in (t, e, cc)
@@ -213,7 +215,7 @@ funcs_are m fs h b =
           (c.0, c.1, ap (λ l. slice_get l (length (imported_funcs m.imports) + i)) b.is ∙ (ap (λ k. slice_get (imports ++ b.defined) (k + i)) (sym n) ∙ (append_right imports b.defined i ∙ (y.2 ∙ ap Some c.2))));
     }
 
--- ---- as the machine calls them ----
+-- ---- functions that the machine calls ----
 
 module _ (m : Module) (k : Kept) (v : ImportsAreTyped m) (f : MachineFits m k) where
   abbrev pub funcs_now : List Func
@@ -239,11 +241,11 @@ module _ (m : Module) (k : Kept) (v : ImportsAreTyped m) (f : MachineFits m k) w
   no_call func le e =
       slice_get_past funcs_now func (omega (arith, le, counted, none_past m.funcs (func - k.imports.funcs) (sym e), funcs_size m, funcs_now_are.many))
 
-  -- what is called is code of the function's type
+  -- The called function is code of its type.
   module _ (func : ℕ) (g : FuncDef) (le : k.imports.funcs ≤ func) (is : slice_get m.funcs (func - k.imports.funcs) ≡ Some g) where
     pub callee_is : (t : FuncType) → slice_get m.types g.ty ≡ Some t → slice_get funcs_now func ≡ Some (Code t (own_inst m) (declared g.locals) g.body)
     callee_is t e = let c = code_call func g le is in let same : c.0 ≡ t = same_Some c.0 t (sym c.1 ∙ e) in rw same at c.2
 
-    -- and it has one
+    -- The called function has a type.
     pub callee_typed : slice_get m.types g.ty ≡ None → ⊥
     callee_typed e = let c = code_call func g le is in none-some c.0 (sym e ∙ c.1)

@@ -1,4 +1,4 @@
--- Instructions on globals and references to functions, and which globals are unknown.
+-- The instructions on globals, and which globals are unknown.
 use Rattle.base_lists.proofs.Common.{◌≡◌, ℕ, zero, suc, ◌+◌, ◌<◌, ◌≤◌, arith, List, [], ◌∷◌, length, map, slice_get, slice_set, Bool, true, false, cond, not, ◌&&◌, Option, Some, None, Ok, Err, refl, sym, ap, ap₂, ◌∙◌, IsSome, nat_eq, filter, le-ltb, ne_eqb, eq-eqb, length-append, length-map}
 use Rattle.base_lists.proofs.Common.{slice_get_past, slice_get_within, length-numbers, map_at, none_past}
 use Rattle.base_lists.specs.Members.{is_among}
@@ -27,7 +27,7 @@ use Rattle.eval_machine.proofs.Stays.{memory_stays}
 use Rattle.eval_machine.proofs.Imports.{address_of, globals_many}
 use Rattle.eval_machine.proofs.Instructions.{IsStill, by_layer, ends_unknown, still, still_goes, still_stops, unknown_stops}
 
--- ---- places of what passes a test ----
+-- ---- places whose elements pass a test ----
 
 above_at : (from n : ℕ) (xs : List ℕ) → n < from → is_among xs n ≡ false → (b : Bool) → is_among (cond b (from ∷ xs) xs) n ≡ false
 above_at from n xs lt rest true = rw (ne_eqb n from (λ e. omega (arith, lt, e))) rest
@@ -45,7 +45,7 @@ among_later : (from n : ℕ) (xs : List ℕ) (a b : Bool) → from < n → is_am
 among_later from n xs a true lt rest = rw (ne_eqb n from (λ e. omega (arith, lt, e))) rest
 among_later from n xs a false lt rest = rest
 
--- a place is among those exactly where what stands there passes the test
+-- A place is among those that pass a test exactly if its element passes the test.
 pub among_places : {A : Type 0} (test : A → Bool) (xs : List A) (from n : ℕ) (x : A) → slice_get xs n ≡ Some x → is_among (places test xs from) (from + n) ≡ test x
 among_places test [] from n x e = absurd (let k = e in cc)
 among_places test (y ∷ ys) from zero x e =
@@ -154,7 +154,7 @@ set_known g v = record g { value = v; standing = standing.Known }
 abbrev unset : GlobalSlot → Bool
 unset g = is_unset g.standing
 
--- from then on it is known, and no other is
+-- A global that is set is known afterwards, and no other global becomes known.
 unset_after : (gs : List GlobalSlot) (from n : ℕ) (g h : GlobalSlot) → slice_get gs n ≡ Some g → unset h ≡ false → filter (λ b. not (nat_eq b (from + n))) (places unset gs from) ≡ places unset (slice_set gs n h) from
 unset_after [] from n g h e u = absurd (let k = e in cc)
 unset_after (x ∷ xs) from zero g h e u =
@@ -168,7 +168,7 @@ module _ (m : Module) (k : Kept) (f : MachineFits m k) (n : ℕ) (vs ls : List V
   abbrev at_set : Registers
   at_set = record { kept = k; operands = vs; locals = ls }
 
-  -- it is not imported, so that nothing but a trap stops it
+  -- A `global.set` of a global that is not imported is stopped by nothing but a trap.
   set_still : (o : Option ℕ) → slice_get (own_inst m).globals n ≡ o → is_imported m Globals n ≡ false → IsStill m at_set (i.GlobalSet n) (Instr-F.GlobalSet n) rest p es
   set_still None a e = record { grow = refl; table = refl; unknown = rw e; import = refl; further = rw a; opens = refl; few = rw a; written = rw a }
   set_still (Some x) a e = record { grow = refl; table = refl; unknown = rw e; import = refl; further = rw a; opens = refl; few = rw a; written = rw a }
@@ -211,7 +211,7 @@ module _ (m : Module) (k : Kept) (f : MachineFits m k) (n : ℕ) (vs ls : List V
         (ap₂ (λ a b. Going (record (state_in m k) { store = record (store_in m k) { globals = a }; unknown = record (base_of m).unknown { globals = b } }) (Running (frame_at m (record at_set { operands = us }) rest p) ∷ es))
         (set_mapped global_of k.globals n (set_known g v)) (ap (λ a. filter (λ b. not (nat_eq b a)) (places unset k.globals 0)) z ∙ unset_after k.globals 0 n g (set_known g v) e refl)))
 
--- as the machine's globals are written
+-- The globals of the machine after a `global.set`.
 module _ (m : Module) (k : Kept) (f : MachineFits m k) (n : ℕ) (vs us : List Val) (gs : List GlobalSlot) where
   abbrev SetsTo : Option Stop → Type 0
   SetsTo stop = BeginsWith m (i.GlobalSet n) k vs stop (record k { globals = gs }) us
@@ -249,14 +249,15 @@ module _ (m : Module) (k : Kept) (f : MachineFits m k) (n : ℕ) (vs us : List V
   pub global_set_begins : (value : Option Value) → Popped value → (stop : Option Stop) → Meets (global_written k.globals n value (slice_get k.globals n)) stop gs → SetsTo stop
   global_set_begins value w stop q = by_slot value w (slice_get k.globals n) refl stop q
 
--- ---- what stays where a global is set ----
+-- ---- what a `global.set` leaves unchanged ----
 
 map_set : {A B : Type 0} (f : A → B) (xs : List A) (n : ℕ) (x y : A) → slice_get xs n ≡ Some x → f y ≡ f x → map f (slice_set xs n y) ≡ map f xs
 map_set f [] n x y e h = refl
 map_set f (z ∷ zs) zero x y e h = let same : z ≡ x = cc in ap (λ b. b ∷ map f zs) (h ∙ ap f (sym same))
 map_set f (z ∷ zs) (suc n) x y e h = ap (λ l. f z ∷ l) (map_set f zs n x y e h)
 
--- what `global.set` leaves: one global is another, of its type, and imported or not as before
+-- The globals after a `global.set`: one has another value of its type, and is imported or not as
+-- before.
 record SetsOne (gs hs : List GlobalSlot) (n : ℕ) : Type 0 where
   before : GlobalSlot
   after : GlobalSlot
@@ -281,7 +282,7 @@ set_by_slot : (gs hs : List GlobalSlot) (n : ℕ) (value : Option Value) (o : Op
 set_by_slot gs hs n value None e q = absurd (let z = q in cc)
 set_by_slot gs hs n value (Some g) e q = set_by_standing gs hs n g value e (is_of_import g.standing) refl q
 
--- the undo log says of the state at the mark what that of the machine says
+-- The undo log says of the state at the mark what that of the machine says.
 pub record KeepsUndo (k : Kept) (undo : UndoLog) : Type 0 where
   pub flags : FlagsAreRight undo.globals undo.noted
   pub globals : (i : ℕ) → global_before undo.globals k.globals i ≡ global_before k.undo.globals k.globals i
@@ -320,7 +321,7 @@ globals_stay k undo gs n value None notes there q h =
     }
 globals_stay k undo gs n value (Some x) notes there q h = rw (h refl) (noting_stays k undo notes)
 
--- the undo log does not change what `global.set` does
+-- The undo log does not change what `global.set` does.
 pub noted_begins : (m : Module) (k : Kept) (n : ℕ) (vs us : List Val) (gs : List GlobalSlot) (undo : UndoLog) (stop : Option Stop) → BeginsWith m (i.GlobalSet n) k vs stop (record k { globals = gs }) us → BeginsWith m (i.GlobalSet n) k vs stop (record k { globals = gs; undo = undo }) us
 noted_begins m k n vs us gs undo None begins = begins
 noted_begins m k n vs us gs undo (Some x) begins = begins

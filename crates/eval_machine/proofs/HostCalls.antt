@@ -1,4 +1,4 @@
--- A call that the host makes, as the machine makes it.
+-- A call by the embedder, as the machine makes it.
 use Rattle.base_lists.proofs.Common.{◌≡◌, ℕ, zero, suc, ◌+◌, ◌-◌, ◌/◌, ◌<◌, ◌≤◌, List, [], ◌∷◌, map, length, Bool, true, false, Option, Some, None, refl, sym, ap, ◌∙◌, inl, inr, arith, slice_get, nat_lt, IsSome, filter_map, option_and_then, option_map, cases_lt, same_Some, slice_get_within}
 use Rattle.base_lists.proofs.Common.{slice_get-map, length-map, and_then_is, chosen_from, append_at_left, append_left, append_right, map_at, slice_get_none, slice_get_there}
 use Rattle.std.proofs.Common.{length-append}
@@ -44,7 +44,7 @@ own_typed m (i ∷ is) h n ty t e f = by (λ n e. own_typed m is (λ n j e. h (s
     by on None g n e = let r = on n (rw g at e) in (r.0, rw g r.1)
     by on (Some u) g n e = by_type on u g (slice_get m.types u) refl n (rw g at e)
 
--- the type of a function that the module defines
+-- The type of a function that the module defines.
 own_index : (m : Module) (func : ℕ) → length (imported_funcs m.imports) ≤ func → slice_get (funcs_of m) func ≡ option_map (λ f. f.ty) (slice_get m.funcs (func - length (imported_funcs m.imports)))
 own_index m func le =
     let z : length (imported_funcs m.imports) + (func - length (imported_funcs m.imports)) ≡ func = omega (arith, le) in
@@ -92,7 +92,8 @@ module _ (unique : QuietEndsAreUnique) (m : Module) (func : ℕ) where
   pub is_own : (k new : Kept) (p : Pair) (t : FuncType) → slice_get (state_in m k).store.funcs func ≡ Some (Own p t) → takes_and_gives_nothing t ≡ true → new.turns ≡ k.turns → CallEnds m func k (Some why.Import) new
   is_own k new p t at e turns = ends_at (state_in m k) (Stopped why.Import k.turns) (Stopped why.Import new.turns) (rw (at, e) refl) (rw turns here) refl
 
-  -- without a signature, the host opens the frame as a call does
+  -- The embedder opens the frame of a function without parameters and results as a call instruction
+  -- does.
   opened_is : (r : Registers) (t : FuncType) (locals : List ValType) (body : List Instr) → takes_and_gives_nothing t ≡ true → host_opened (state_in m r.kept) (Code t (own_inst m) locals body) ≡ entered m r t [] locals body (Mark ∷ [])
   opened_is r t locals body e = by (nat_lt r.kept.turns (length locals / 64)) refl
     where
@@ -148,7 +149,7 @@ still_stopped m (Stopped y left) (Some f) x e = e
 still_stopped m (Finished s) start x e = absurd (let k = e in cc)
 still_stopped m (Going s es) start x e = absurd (let k = e in cc)
 
--- the start of a valid module has its type
+-- The start function of a valid module has a type.
 pub start_typed : (m : Module) → ItemsHold m → (func : ℕ) → m.start ≡ Some func → IsSome (type_of_func m func)
 start_typed m hold func some =
     let h = hold kind.Start 0 (rw some (omega arith)) in
@@ -156,7 +157,7 @@ start_typed m hold func some =
     let at : type_of_func m func ≡ Some h.1 = ap (type_of_func m) (sym same) ∙ h.3 in
     rw at refl
 
--- the function at an index of a valid module has its type
+-- Each function of a valid module has a type.
 pub type_there : (m : Module) → ImportsAreTyped m → ItemsHold m → (func : ℕ) → func < length (funcs_of m) → IsSome (type_of_func m func)
 type_there m imports hold func lt = elim (cases_lt func (length (imported_funcs m.imports))) [
   | inl less ↦

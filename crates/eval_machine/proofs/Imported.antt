@@ -1,4 +1,4 @@
--- What stops an active element segment.
+-- The stops of an active element segment.
 use Rattle.base_lists.proofs.Common.{◌≡◌, ℕ, ℤ, ◌+◌, ◌<◌, ◌≤◌, List, length, true, false, Some, None, refl, ap, ◌∙◌, nat_lt, lt-ltb, le-ltb, le-leb}
 use Rattle.std.proofs.lemmas.Bool.{or_right}
 use Rattle.wasm_tree_spec.specs.Prelude.{Tables, TableType, ConstExpr, Module, imported_tables}
@@ -10,8 +10,6 @@ use Rattle.eval_machine.specs.Prelude.{CopiesItems, defined_table}
 use Rattle.eval_machine.specs.Begun.{FillsSlots, elem_stop, has_slots}
 use Rattle.eval_machine.specs.declared.slots.Slot.{Slot}
 use Rattle.eval_machine.proofs.Imports.{tables_many}
-
--- ---- what stops an element segment ----
 
 pub is_imported_table : (m : Module) (table : ℕ) → table < length (imported_tables m.imports) → is_imported m Tables table ≡ true
 is_imported_table m table lt = ap (λ n. nat_lt table n) (tables_many m) ∙ lt-ltb table (length (imported_tables m.imports)) lt

@@ -1,11 +1,11 @@
--- How many of an index space are imported, and addresses that are indices.
+-- The number of imports in an index space, and addresses that are indices.
 use Rattle.base_lists.proofs.Common.{◌≡◌, ℕ, ◌+◌, ◌<◌, arith, length, slice_get, Some, refl, ap, ◌∙◌, is_some, numbers_at, places_many}
 use Rattle.base_lists.specs.Places.{numbers}
 use Rattle.wasm_tree_spec.specs.Prelude.{Tables, Memories, Globals, ImportDesc, Module, space_of_import, table_of, memory_of, global_of, imported_tables, imported_memories, imported_globals, same_space}
 use Rattle.wasm_tree.specs.declared.module.ImportDesc.TheVariants as im
 use Rattle.wasm_meaning.specs.Prelude.{has_kind, imports_of}
 
--- each index is its own address
+-- Each index is its own address.
 pub address_of : (count n : ℕ) → n < count → slice_get (numbers 0 count) n ≡ Some n
 address_of count n lt = numbers_at 0 count n lt ∙ (let e : 0 + n ≡ n = omega arith in ap Some e)
 

@@ -1,4 +1,4 @@
--- Calls through a table.
+-- The instruction call_indirect, which calls a function through a table.
 use Rattle.base_lists.proofs.Common.{◌≡◌, ℕ, ◌/◌, ◌<◌, ◌≤◌, List, [], ◌∷◌, length, slice_get, Bool, true, false, Option, Some, None, Err, refl, ap, ◌∙◌, inl, inr, nat_le, nat_lt, same_Some, is_some}
 use Rattle.base_lists.specs.Options.{◌>>=◌}
 use Rattle.wasm_tree_spec.specs.Prelude.{Types, FuncType, ValType, Instr, Module, same_func_type}
@@ -28,7 +28,7 @@ use Rattle.eval_machine.proofs.Openings.{none_of, type_kind}
 use Rattle.eval_machine.proofs.Reached.{unmatched}
 use Rattle.eval_machine.proofs.TableSteps.{IsTable, imported_table, no_table, own_table}
 
--- ---- the function in the slot that is named on top ----
+-- ---- the function in the slot that the top operand names ----
 
 none_named : (vs : List Val) (t : Table) → pop_num W32 vs ≡ IllTyped → func_in_slot vs t ≡ None
 none_named [] t e = refl
@@ -46,7 +46,7 @@ named (Num W32 n ∷ vs) below t place e = let same : n ≡ place = ap place_of 
 named (Num W64 n ∷ vs) below t place e = absurd (let k = e in cc)
 named (Ref r ∷ vs) below t place e = absurd (let k = e in cc)
 
--- ---- what stops it ----
+-- ---- what stops a call through a table ----
 
 module _ (m : Module) (r new : Registers) (f : MachineFits m r.kept) (ty n : ℕ) (same : new.kept ≡ r.kept) where
   abbrev calls : Instr
@@ -87,7 +87,7 @@ module _ (m : Module) (r new : Registers) (f : MachineFits m r.kept) (ty n : ℕ
           pub indirect_outside : ref_in (base_of m) n place ≡ None → ComesToAct m calls r (act.Leaves (flow.Stopped why.Trap)) new
           indirect_outside e = trap_stops known (rw (t.address, t.there, named r.operands new.operands t.table place pop, slot_is None e)) (λ rest p. rw (t.address, t.there, pop, slot_is None e))
 
-          -- it refers to no function
+          -- The slot refers to no function.
           no_func : (x : RefVal) → ref_in (base_of m) n place ≡ Some x → func_of (Ref x) ≡ None → ComesToAct m calls r (act.Leaves (flow.Stopped why.Trap)) new
           no_func (FuncRef o) e h = trap_stops known (rw (t.address, t.there, named r.operands new.operands t.table place pop, slot_is (Some (FuncRef o)) e, h)) (λ rest p. rw (t.address, t.there, pop, slot_is (Some (FuncRef o)) e, h))
           no_func (ExternRef o) e h = trap_stops known (rw (t.address, t.there, named r.operands new.operands t.table place pop, slot_is (Some (ExternRef o)) e)) (λ rest p. rw (t.address, t.there, pop, slot_is (Some (ExternRef o)) e))
@@ -96,7 +96,7 @@ module _ (m : Module) (r new : Registers) (f : MachineFits m r.kept) (ty n : ℕ
           no_func_at v None e g h = absurd (let k = g in cc)
           no_func_at v (Some x) e g h = let is : Ref x ≡ v = same_Some (Ref x) v g in no_func x e (ap func_of is ∙ h)
 
-          -- it refers to a function
+          -- The slot refers to a function.
           module _ (func : ℕ) (at : ref_in (base_of m) n place ≡ Some (FuncRef (Some func))) where
             pub indirect_import : is_some (own_at (base_of m).store func) ≡ true → ComesToAct m calls r (act.Leaves (flow.Stopped why.Import)) new
             indirect_import o = λ rest p es.
@@ -119,7 +119,7 @@ module _ (m : Module) (r new : Registers) (f : MachineFits m r.kept) (ty n : ℕ
               pub indirect_other : ((type_matches m ty func ≡ Some true) → ⊥) → ComesToAct m calls r (act.Leaves (flow.Stopped why.Trap)) new
               indirect_other h = trap_stops known no_import (other_type (type_at (base_of m).store func) refl (slice_get m.types ty) refl h)
 
-              -- the function begins
+              -- The function is entered.
               module _ (here : new.locals ≡ r.locals) (rest : List Instr) (p : LevelPlace) (es : List Entry) where
                 abbrev Enters : Type 0
                 Enters = begun_by m r calls layer rest p es (done_by m r layer rest p) ≡ called m new func rest p es
@@ -159,7 +159,7 @@ module _ (m : Module) (r new : Registers) (f : MachineFits m r.kept) (ty n : ℕ
             indirect_reaches valid here (act.Leaves (flow.Stopped why.Trap)) h = indirect_other h.0 h.1
             indirect_reaches valid here _ h = elim h [ ]
 
-          -- as the machine finds it
+          -- The call of the function that the machine finds in a known slot.
           pub indirect_at : ImportsAreTyped m → new.locals ≡ r.locals → (v : Value) (func : ℕ) → IsSlot (base_of m) n place (slot.Known v) → func_of (val_of v) ≡ Some func → (a : MachineAct) → ReachesThroughTable m ty func a → ComesToAct m calls r a new
           indirect_at valid here v func h g a reaches = by (ref_in (base_of m) n place) refl h.1
             where

@@ -1,4 +1,4 @@
--- memory.init, and where a data segment is found.
+-- The instruction memory.init, and the data segment that it copies.
 use Rattle.base_lists.proofs.Common.{◌≡◌, ℕ, zero, suc, ◌+◌, ◌-◌, ◌/◌, ◌<◌, ◌≤◌, arith, List, [], ◌∷◌, length, slice_get, Bool, true, false, Option, Some, None, Err, refl, sym, same_Some, slice_get_within, numbers_is}
 use Rattle.std.proofs.Common.{length-drop, length-take-le}
 use Rattle.base_lists.specs.Options.{◌>>=◌}
@@ -49,7 +49,7 @@ bytes_there (x ∷ ds) (y ∷ bs) (suc n) d e f = bytes_there ds bs n d e f
 bytes_there [] bs n d e f = absurd (let k = e in cc)
 bytes_there (x ∷ ds) [] n d e f = absurd (let k = f in cc)
 
--- ---- where it is found ----
+-- ---- the data segment that an instruction names ----
 
 pub record IsData (m : Module) (k : Kept) (segment : ℕ) (bytes : List ℕ) : Type 0 where
   pub found : Data
@@ -84,7 +84,7 @@ module _ (m : Module) (k : Kept) (segment : ℕ) where
 
 -- ---- what stops memory.init before it writes ----
 
--- a trap whatever there is
+-- A look-up leads to a trap if each of its results does.
 pub stops_with : {A B : Type 0} (o : Option A) (g : A → Outcome B) → ((x : A) → o ≡ Some x → ended (g x) ≡ Err why.Trap) → ended (bind (or_ill_typed o) g) ≡ Err why.Trap
 stops_with None g h = refl
 stops_with (Some x) g h = h x refl

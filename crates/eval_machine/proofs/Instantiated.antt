@@ -1,4 +1,5 @@
--- The instantiation of a valid module, from its state at first to the last data segment.
+-- The instantiation of a valid module, from the state before any segment to the one after the last
+-- data segment.
 use Rattle.base_lists.proofs.Common.{◌≡◌, ℕ, suc, ◌+◌, ◌*◌, ◌≤◌, List, [], ◌∷◌, ◌++◌, map, length, replicate, Bool, false, Option, Some, None, refl, sym, ap, ◌∙◌, arith, nat_lt, slice_get, le-ltb, same_Some, slice_get_within}
 use Rattle.std.proofs.Common.{length-append}
 use Rattle.base_lists.specs.Places.{places}
@@ -20,7 +21,7 @@ use Rattle.eval_machine.specs.Kept.{base_of, counts_of}
 use Rattle.eval_machine.proofs.First.{elems_there, first_state, funcs_there, is_at_first, starts_as}
 use Rattle.eval_machine.proofs.FirstGlobals.{copies_are, none_dropped}
 
--- ---- what a valid module has ----
+-- ---- properties of a valid module ----
 
 pub globals_typed : (m : Module) → ItemsHold m → (n : ℕ) (g : GlobalDef) → slice_get m.globals n ≡ Some g → const_type m g.init ≡ Some g.ty.ty
 globals_typed m hold n g at = let h = hold kind.Global n (slice_get_within m.globals n g at) in let same : h.0 ≡ g = same_Some h.0 g (sym h.1 ∙ at) in rw same at h.2
@@ -43,7 +44,7 @@ limits_few m hold single = by m.mems refl
 
 -- ---- a memory at first ----
 
--- what is written of the pages that are blank, and their bytes
+-- Blank pages have the bytes that the limits declare, and no written blocks.
 pub blank_mems : (ls : List Limits) (p : Option Pages) → IsBlank ls p → map (λ l. record { most = l.max; pages = l.min; bytes = copies (65536 * l.min) 0 }) ls ≡ memory_in ls p
 blank_mems [] None b = refl
 blank_mems [] (Some p) b = elim b [ ]
@@ -89,7 +90,7 @@ module _ (m : Module) (hold : ItemsHold m) (single : length (memories_of m) ≤ 
     f : IsFilled m first (length m.elems) filled s
     f = (fills first starts).2
 
-    -- the state in which the data segments begin
+    -- The state before the first data segment.
     begins : s ≡ data_state m s p flags
     begins =
         let mems : (imported_store m).mems ++ memory_in m.mems p ≡ s.store.mems = sym (f.mems ∙ ap (λ xs. (imported_store m).mems ++ xs) (blank_mems m.mems p is_blank)) in

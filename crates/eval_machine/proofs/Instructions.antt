@@ -1,4 +1,5 @@
--- What the step that begins an instruction comes to, by its kind.
+-- The step that begins an instruction, and the stage to which it leads, by the kind of the
+-- instruction.
 use Rattle.base_lists.proofs.Common.{◌≡◌, ℕ, zero, suc, ◌-◌, ◌<◌, arith, List, [], ◌∷◌, drop, slice_get, Bool, true, false, Option, Some, None, Err, refl, ap, ◌∙◌, nat_eq, nat_le, nat_lt, le-ltb, ne_eqb}
 use Rattle.wasm_tree_spec.specs.Prelude.{ValType, Instr, out-Instr, Module}
 use Rattle.wasm_tree.specs.declared.instr.Instr.TheOpen.{Instr-F}
@@ -16,19 +17,20 @@ use Rattle.eval_machine.proofs.Levels.{resume_same}
 not_zero : (n : ℕ) → 0 < n → nat_eq n 0 ≡ false
 not_zero n lt = ne_eqb n 0 (λ e. omega (arith, lt, e))
 
--- the one turn of an instruction is spent
+-- The step that begins an instruction spends its one turn.
 pub spends : (m : Module) (r s : Registers) (o : Instr) (rest : List Instr) (p : LevelPlace) (es : List Entry) (t : Stage) → 0 < r.kept.turns → s ≡ record r { kept = record r.kept { turns = r.kept.turns - 1 } } →
     ComesTo m (begun m s o rest p es) t → ComesTo m (running m r (o ∷ rest) p es) t
 spends m r s o rest p es t lt e q = on (rw (not_zero r.kept.turns lt) (rw e at q))
 
--- the same by the instruction's one layer
+-- The step that begins an instruction depends only on the outer layer of the instruction.
 pub by_layer : (m : Module) (r : Registers) (o : Instr) (z : Instr-F Instr) (rest : List Instr) (p : LevelPlace) (es : List Entry) (t : Stage) → out-Instr o ≡ z → begun_by m r o z rest p es (done_by m r z rest p) ≡ t → begun m r o rest p es ≡ t
 by_layer m r o z rest p es t e q = ap (λ z. begun_by m r o z rest p es (done_by m r z rest p)) e ∙ q
 
--- ---- an instruction of whose tests only a trap's can hold ----
+-- ---- an instruction that only a trap can stop ----
 
 module _ (m : Module) (r : Registers) (o : Instr) (z : Instr-F Instr) (rest : List Instr) (p : LevelPlace) (es : List Entry) where
-  -- it does not grow, write a table, use what is unknown, call an import, take further turns, open anything or write
+  -- The instruction grows no memory, writes no table or memory, uses nothing unknown, calls no
+  -- import, takes no further turns and opens no label or frame.
   pub record IsStill : Type 0 where
     pub grow : grows z ≡ false
     pub table : changes_table z ≡ false
@@ -39,7 +41,7 @@ module _ (m : Module) (r : Registers) (o : Instr) (z : Instr-F Instr) (rest : Li
     pub few : writes_too_many (state_in m r.kept).written (touched_by z (env_in m r.kept) r.operands) ≡ false
     pub written : written_after (state_in m r.kept).written (touched_by z (env_in m r.kept) r.operands) ≡ (state_in m r.kept).written
 
-  -- what comes of it where nothing but a trap stops it
+  -- The stage after such an instruction.
   abbrev pub stilly : Outcome Act → Stage
   stilly done = came_to (record (state_in m r.kept) { unknown = left_after (state_in m r.kept).unknown done }) (next_by m r o rest p es done)
 
@@ -62,11 +64,11 @@ module _ (m : Module) (r : Registers) (o : Instr) (z : Instr-F Instr) (rest : Li
   still_stops IllTyped e = refl
   still_stops (Gives x) e = absurd (let f = e in cc)
 
-  -- what is unknown stops it before all that comes after
+  -- The use of an unknown place is tested before traps, turns, depth and blocks.
   pub unknown_stops : grows z ≡ false → changes_table z ≡ false → uses_unknown m (state_in m r.kept).unknown z (env_in m r.kept) r.operands ≡ true → (done : Outcome Act) → begun_by m r o z rest p es done ≡ Stopped why.Unknown r.kept.turns
   unknown_stops a b c done = rw (a, b, c)
 
-  -- the three ends of such an instruction
+  -- The three ends of such an instruction: it uses an unknown place, it traps, or it goes on.
   pub ends_unknown : out-Instr o ≡ z → grows z ≡ false → changes_table z ≡ false → uses_unknown m (state_in m r.kept).unknown z (env_in m r.kept) r.operands ≡ true → begun m r o rest p es ≡ Stopped why.Unknown r.kept.turns
   ends_unknown e a b c = by_layer m r o z rest p es (Stopped why.Unknown r.kept.turns) e (unknown_stops a b c (done_by m r z rest p))
 
@@ -76,7 +78,7 @@ module _ (m : Module) (r : Registers) (o : Instr) (z : Instr-F Instr) (rest : Li
   pub ends_on : out-Instr o ≡ z → IsStill → (new : Registers) → done_by m r z rest p ≡ Gives (go (body_at new rest p)) → new.kept ≡ r.kept → begun m r o rest p es ≡ running m new rest p es
   ends_on e i new d s = by_layer m r o z rest p es (running m new rest p es) e (still i (done_by m r z rest p) ∙ still_goes (done_by m r z rest p) new d s)
 
-  -- a trap comes before all that a write is tested for
+  -- A trap is tested before the turns and blocks of a write.
   trap_first : grows z ≡ false → changes_table z ≡ false → uses_unknown m (state_in m r.kept).unknown z (env_in m r.kept) r.operands ≡ false → calls_import z (env_in m r.kept) r.operands ≡ false → (done : Outcome Act) → ended done ≡ Err why.Trap →
       begun_by m r o z rest p es done ≡ Stopped why.Trap r.kept.turns
   trap_first a b c d Traps e = rw (a, b, c, d)

@@ -1,4 +1,4 @@
--- Quiet steps of a level in its frame, as the machine makes them.
+-- The quiet steps of a level in its frame, as the machine makes them.
 use Rattle.base_lists.proofs.Common.{◌≡◌, ℕ, zero, suc, ◌+◌, ◌-◌, ◌<◌, arith, List, [], ◌∷◌, ◌++◌, drop, slice_get, Option, Some, None, refl}
 use Rattle.wasm_tree_spec.specs.Prelude.{Instr, Module}
 use Rattle.wasm_meaning.specs.Prelude.{Outcome, Gives, Traps, IllTyped, bind, or_ill_typed, split_at, Val, Level, Entry, Body, Act, Goes, Calls, AsksGrow, Ends, branch, resume}
@@ -23,7 +23,7 @@ inner gives takes back below rest p = record { gives = gives; takes = takes; bac
 pub inner_depth : (gives takes : ℕ) (back : List Instr) (below : List Val) (rest : List Instr) (p : LevelPlace) (es : List Entry) (d : ℕ) → depth p es ≡ d → depth (inner gives takes back below rest p) es ≡ d + 1
 inner_depth gives takes back below rest p es d e = omega (arith, e)
 
--- the level ends
+-- The end of the level goes on in the level outside.
 pub fell : (m : Module) (r : Registers) (gives takes : ℕ) (back : List Instr) (below top gone vs : List Val) (rest : List Instr) (p : LevelPlace) (es : List Entry) → split_at gives r.operands ≡ Some (top, gone) → vs ≡ top ++ below →
     ComesTo m (running m r [] (inner gives takes back below rest p) es) (running m (record r { operands = vs }) rest p es)
 fell m r gives takes back below top gone vs rest p es e f = on (rw (e, f) here)
@@ -32,7 +32,7 @@ pub fell_short : (m : Module) (r : Registers) (gives takes : ℕ) (back : List I
     ComesTo m (running m r [] (inner gives takes back below rest p) es) (Stopped why.Trap r.kept.turns)
 fell_short m r gives takes back below rest p es e = on (rw e here)
 
--- a branch to the level itself
+-- A branch to the level itself goes on at the level's continuation.
 pub jumped : (m : Module) (r : Registers) (label gives takes : ℕ) (back : List Instr) (below carried gone vs : List Val) (rest : List Instr) (p : LevelPlace) (es : List Entry) → label ≡ 0 → split_at takes r.operands ≡ Some (carried, gone) → vs ≡ carried ++ below →
     acted m r (inner gives takes back below rest p) es (branch (body_at r [] (inner gives takes back below rest p)) label) ≡ running m (record r { operands = vs }) (back ++ rest) p es
 jumped m r label gives takes back below carried gone vs rest p es h e f = rw (h, e, f)
@@ -41,7 +41,7 @@ pub jumped_short : (m : Module) (r : Registers) (label gives takes : ℕ) (back 
     acted m r (inner gives takes back below rest p) es (branch (body_at r [] (inner gives takes back below rest p)) label) ≡ Stopped why.Trap r.kept.turns
 jumped_short m r label gives takes back below rest p es h e = rw (h, e)
 
--- a branch past it is the branch of the level outside with these operands
+-- A branch past the level is a branch of the level outside, with the same operands.
 acted_out : (m : Module) (r : Registers) (gives takes : ℕ) (back : List Instr) (below : List Val) (rest : List Instr) (p : LevelPlace) (es : List Entry) (o : Outcome Act) →
     acted m r (inner gives takes back below rest p) es o ≡ acted m r p es o
 acted_out m r gives takes back below rest p es Traps = refl

@@ -50,7 +50,7 @@ module _ (m : Module) (k : Kept) (f : MachineFits m k) where
   counts : length (memories_of m) ≡ length (imported_memories m.imports) + length m.mems
   counts = length-append (imported_memories m.imports) m.mems
 
-  -- there is none past the one that is defined
+  -- No memory follows the one that the module defines.
   pub none_past_it : (n : ℕ) → k.imports.memories < n → slice_get (own_inst m).mems n ≡ None
   none_past_it n lt = slice_get_past (own_inst m).mems n (omega (arith, lt, single, length-numbers 0 (length (memories_of m))))
 
@@ -59,12 +59,12 @@ module _ (m : Module) (k : Kept) (f : MachineFits m k) where
   no_mems (l ∷ []) h = elim h [ ]
   no_mems (l ∷ k ∷ ls) h = elim h [ ]
 
-  -- and none where none is defined
+  -- No memory has the index after the imported ones if the module defines none.
   pub none_defined : (n : ℕ) → n ≡ k.imports.memories → k.memory ≡ None → slice_get (own_inst m).mems n ≡ None
   none_defined n e is =
       let h = subst (MemoryFits m.mems) is f.memory in slice_get_past (own_inst m).mems n (omega (arith, e, counted, counts, no_mems m.mems h, length-numbers 0 (length (memories_of m))))
 
-  -- the one that is defined is found
+  -- The memory that the module defines, with its limits and pages.
   pub record IsThere (n : ℕ) (p : Pages) : Type 0 where
     pub limits : Limits
     pub defined : m.mems ≡ limits ∷ []
@@ -99,7 +99,7 @@ module _ (m : Module) (k : Kept) (f : MachineFits m k) where
   pub found : (n : ℕ) (p : Pages) → n ≡ k.imports.memories → k.memory ≡ Some p → IsThere n p
   found n p e q = found_in n p m.mems refl e q (subst (MemoryFits m.mems) q f.memory)
 
-  -- of the limits that are declared, by their place
+  -- No memory has the index of limits that are not declared.
   pub none_there : (n : ℕ) → k.imports.memories ≤ n → slice_get m.mems (n - k.imports.memories) ≡ None → slice_get (own_inst m).mems n ≡ None
   none_there n le e = slice_get_past (own_inst m).mems n (omega (arith, le, counted, counts, none_past m.mems (n - k.imports.memories) (sym e), length-numbers 0 (length (memories_of m))))
 

@@ -1,4 +1,4 @@
--- Loads and the size of the memory.
+-- Loads, the size of the memory, and the stops of memory.fill and memory.copy.
 use Rattle.base_lists.proofs.Common.{◌≡◌, ℕ, ◌+◌, ◌-◌, ◌<◌, ◌≤◌, arith, List, [], ◌∷◌, slice_get, false, Option, Some, None, Err, refl, sym, ◌∙◌, none-some}
 use Rattle.block_pool.specs.Pages.{Pages, part, little as spelled, size}
 use Rattle.wasm_tree_spec.specs.Prelude.{Memories, Limits, LoadOp, MemArg, Instr, Module}
@@ -97,7 +97,7 @@ module _ (m : Module) (k : Kept) (f : MachineFits m k) (n : ℕ) (vs us : List V
 -- ---- what stops memory.fill and memory.copy before they write ----
 
 module _ (m : Module) (k : Kept) (f : MachineFits m k) (n : ℕ) (vs us : List Val) where
-  -- a fill writes the same where it is not known what
+  -- A fill whose operands do not tell what it writes is stopped by nothing but a trap.
   fill_still : (ls : List Val) (rest : List Instr) (p : LevelPlace) (es : List Entry) → is_imported m Memories n ≡ false → touched_by (Instr-F.MemoryFill n) (env_in m k) vs ≡ IllTyped →
       IsStill m (record { kept = k; operands = vs; locals = ls }) (i.MemoryFill n) (Instr-F.MemoryFill n) rest p es
   fill_still ls rest p es e h = record { grow = refl; table = refl; unknown = rw e; import = refl; further = rw h; opens = refl; few = rw h; written = rw h }

@@ -1,4 +1,4 @@
--- What operations of numbers come to.
+-- The results of operations on numbers.
 use Rattle.base_lists.proofs.Common.{◌≡◌, ℕ, List, ◌∷◌, Option, Some, None, Ok, Err, refl}
 use Rattle.wasm_num.specs.declared.UnOp.{UnOp}
 use Rattle.wasm_num.specs.declared.BinOp.{BinOp}

@@ -1,4 +1,4 @@
--- What a block, loop or if comes to when it begins.
+-- The step that begins a block, loop or if, and the stage to which it leads.
 use Rattle.base_lists.proofs.Common.{◌≡◌, ℕ, arith, List, [], ◌∷◌, length, Bool, true, false, cond, Some, refl, ap, ap₂, ◌∙◌, slice_get, nat_eq, nat_lt, list_any, le-ltb, ne_eqb}
 use Rattle.base_lists.specs.Places.{places}
 use Rattle.wasm_tree_spec.specs.Prelude.{Space, Types, BlockType, FuncType, ValType, Instr, out-Instr, Block, Loop, If, outs-Block, outs-Loop, outs-If, Import, ImportDesc, Module, block_operands, same_space, space_of_import}
@@ -26,7 +26,7 @@ out_loop o ty body e = ap out-Instr e ∙ outs-Loop ty body
 pub out_if : (o : Instr) (ty : BlockType) (body other : List Instr) → o ≡ If ty body other → out-Instr o ≡ Instr-F.If ty body other
 out_if o ty body other e = ap out-Instr e ∙ outs-If ty body other
 
--- no type is imported
+-- No import is of a type.
 pub type_kind : (d : ImportDesc) → same_space Types (space_of_import d) ≡ false
 type_kind (im.Func t) = refl
 type_kind (im.Table t) = refl
@@ -67,7 +67,7 @@ module _ (m : Module) (o : Instr) (r : Registers) (ty : BlockType) (body : List 
   loop_begins act.Continues e h = elim h [ ]
   loop_begins (act.Calls n) e h = elim h [ ]
 
-  -- the one of the two bodies that the number chooses
+  -- An `if` opens the one of its two bodies that the number chooses.
   pub if_begins : (first second : List Instr) (n : ℕ) (new : Registers) (a : MachineAct) → o ≡ If ty first second → pop_num W32 r.operands ≡ Gives (n, new.operands) → new.kept ≡ r.kept → new.locals ≡ r.locals → cond (nat_eq n 0) second first ≡ body →
       Opens m ty body false a → ComesToAct m o r a new
   if_begins first second n new (act.Opens b) e f k l choose (t, shape, params, gives, takes, code, again) = λ rest p es.
@@ -101,7 +101,7 @@ opens_index m n t ps k body again act.Continues e f g h = elim h [ ]
 opens_index m n t ps k body again (act.Leaves left) e f g h = elim h [ ]
 opens_index m n t ps k body again (act.Calls x) e f g h = elim h [ ]
 
--- a number that is not 0 chooses the second
+-- A number that is not 0 chooses the second of two bodies, and 0 the first.
 pub not_zero_chooses : (n : ℕ) (a b : List Instr) → (n ≡ 0 → ⊥) → cond (nat_eq n 0) a b ≡ b
 not_zero_chooses n a b h = rw (ne_eqb n 0 h)
 

@@ -1,4 +1,4 @@
--- Lists that are written over a part of others: where they fit, and what stands there then.
+-- Lists that overwrite a part of other lists: whether they fit, and the elements afterwards.
 use Rattle.base_lists.proofs.Common.{◌≡◌, ℕ, zero, suc, ◌+◌, ◌-◌, ◌<◌, ◌≤◌, List, [], ◌∷◌, ◌++◌, length, take, drop, true, false, cond, ◌&&◌, Some, None, refl, sym, ap, ◌∙◌, inl, inr, arith, nat_le, nat_lt, slice_get, cases_lt, lt-ltb, le-ltb, le-leb, lt-leb, drop-drop, length-drop, length-take-le}
 use Rattle.base_lists.proofs.Common.{length-append, append_left, append_right, drop_at, split_take}
 use Rattle.wasm_meaning.specs.Prelude.{overwrite}

@@ -1,4 +1,4 @@
--- What an instruction on operands and locals alone comes to.
+-- The step of an instruction that uses only operands and locals.
 use Rattle.base_lists.proofs.Common.{◌≡◌, List, true, Option, Some, None, Ok, Err, refl, ap, ◌∙◌, subst, sym}
 use Rattle.wasm_tree_spec.specs.Prelude.{Instr, out-Instr, Module}
 use Rattle.wasm_tree.specs.declared.instr.Instr.TheOpen.{Instr-F}
@@ -51,6 +51,6 @@ plain_begins m o r (Some x) us ks e d = λ rest p es.
     let same : x ≡ why.Trap = ended_trap done x (d (env_in m r.kept) (body_at r rest p)) in
     still m r o (out-Instr o) rest p es s done ∙ (still_stops m r o (out-Instr o) rest p es done (d (env_in m r.kept) (body_at r rest p) ∙ ap Err same) ∙ ap (λ y. Stopped y r.kept.turns) (sym same))
 
--- what is said of an instruction's name
+-- A step of an instruction is one of an instruction that is equal to it.
 pub begins_as : (m : Module) (o z : Instr) (r : Registers) (stop : Option Stop) (j : Kept) (us : List Val) → o ≡ z → BeginsWith m z r.kept r.operands stop j us → Begins m o r stop (record r { kept = j; operands = us })
 begins_as m o z r stop j us e b = subst (λ o. Begins m o r stop (record r { kept = j; operands = us })) (sym e) (b r.locals)

@@ -15,14 +15,14 @@ use Rattle.eval_machine.proofs.Writes.{passes_too_many}
 
 -- ---- blocks ----
 
--- where the pages may write as many blocks, so may an evaluation
+-- A write that the pages allow does not write too many blocks for an evaluation.
 few_enough : (p : Pages) (place count : ℕ) → HoldsMost p → ¬ Passes p place count → too_many_blocks (with_reached place count 0 p.now.written) ≡ false
 few_enough p place count h q = elim (cases_lt p.most (count_by (λ w. w) (with_reached place count 0 p.now.written))) [
   | inl lt ↦ absurd (q lt)
   | inr le ↦ le-ltb MOST_BLOCKS (count_by (λ w. w) (with_reached place count 0 p.now.written)) (omega (arith, le, h))
 ]
 
--- ---- what stops a segment ----
+-- ---- the stops of a data segment ----
 
 pub is_imported_memory : (m : Module) (memory : ℕ) → memory < length (imported_memories m.imports) → is_imported m Memories memory ≡ true
 is_imported_memory m memory lt = ap (λ n. nat_lt memory n) (memories_many m) ∙ lt-ltb memory (length (imported_memories m.imports)) lt
@@ -92,7 +92,7 @@ module _ (m : Module) (p : Pages) (memory : ℕ) (v : ℤ) (place count : ℕ) (
       let few : too_many_blocks (with_reached (wrapped 32 v) count 0 p.now.written) ≡ false = rw at at (few_enough p place count h q) in
       rw (known, inside le, few) refl
 
--- ---- what stays ----
+-- ---- what a write leaves unchanged ----
 
 pub holds_still : (p q : Pages) (place : ℕ) (bytes : List ℕ) → WritesBytes p q place bytes → HoldsMost p → HoldsMost q
 holds_still p q place bytes w h = w.most ∙ (h ∙ ap (min MOST_BLOCKS) (sym w.flags))

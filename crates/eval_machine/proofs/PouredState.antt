@@ -28,7 +28,7 @@ data_at (x ∷ ds) [] n d e f = absurd (let k = f in cc)
 data_at (x ∷ ds) (b ∷ bs) zero d e f = let is : b ≡ false = same_Some b false f in let same : x ≡ d = same_Some x d e in rw (is, same) refl
 data_at (x ∷ ds) (b ∷ bs) (suc n) d e f = data_at ds bs n d e f
 
--- a segment that is dropped has no bytes
+-- A dropped segment has no bytes.
 pub data_dropped : (ds : List DataSeg) (bs : List Bool) (n : ℕ) → slice_set (datas_in ds bs) n no_bytes ≡ datas_in ds (slice_set bs n true)
 data_dropped [] bs n = refl
 data_dropped (x ∷ ds) [] n = refl
@@ -51,7 +51,7 @@ no_limit [] f = refl
 no_limit (l ∷ []) f = elim f [ ]
 no_limit (l ∷ k ∷ ls) f = elim f [ ]
 
--- ---- which of the stops it is ----
+-- ---- the stop of a segment ----
 
 data StopIs (unknown there many : Bool) : Option Stop → Type 0 where
   nothing : unknown ≡ false → there ≡ true → many ≡ false → StopIs unknown there many None
@@ -115,7 +115,7 @@ module _ (m : Module) (s : State) (n : ℕ) (d : DataSeg) (at : slice_get m.data
   imported_many : length (imported_store m).mems ≡ length (imported_memories m.imports)
   imported_many = length-map (imported_memories m.imports) _
 
-  -- the memory that the module defines
+  -- The segment is for the memory that the module defines.
   module _ (v : ℤ) (q : Pages) (there : p ≡ Some q) (memory : ℕ) (own : memory ≡ length (imported_memories m.imports)) where
     fits_q : MemoryFits m.mems (Some q)
     fits_q = rw there at holds
@@ -152,7 +152,7 @@ module _ (m : Module) (s : State) (n : ℕ) (d : DataSeg) (at : slice_get m.data
         let blocks : with_reached (wrapped 32 v) (length d.bytes) 0 q.now.written ≡ new.now.written = sym (ap (λ c. c.written) w.now) in
         rw (there, one, bytes, blocks, set_last (imported_store m).mems (the_memory l q) (the_memory l new) memory z, data_dropped m.datas flags n) refl
 
-  -- no memory has this index, or the bytes are not there
+  -- No memory has this index, or the memory does not have the bytes.
   nowhere : (memory : ℕ) → length (memories_of m) ≤ memory → slice_get (own_inst m).mems memory ≡ None
   nowhere memory le = slice_get_past (own_inst m).mems memory (rw (length-numbers 0 (length (memories_of m))) le)
 
@@ -197,7 +197,7 @@ module _ (m : Module) (s : State) (n : ℕ) (d : DataSeg) (at : slice_get m.data
     stops_second : (offset : ConstExpr) (x : Filled) → (reads_global offset || is_imported m Memories memory) ≡ false → x.trapped ≡ true → stage memory offset x ≡ Stopped why.Trap old.turns
     stops_second offset x h k = rw (h, k) refl
 
-    -- its bytes are there
+    -- The memory has the bytes, but the segment writes too many blocks.
     at_place : (offset : ConstExpr) → (reads_global offset || is_imported m Memories memory) ≡ false → (b : HasBytes m p memory offset (length d.bytes)) → too_many_blocks (with_reached (place_at offset) (length d.bytes) 0 (written_in p)) ≡ true →
         stage memory offset (run memory offset) ≡ Stopped why.Memory old.turns
     at_place offset known b many =
@@ -235,12 +235,12 @@ module _ (m : Module) (s : State) (n : ℕ) (d : DataSeg) (at : slice_get m.data
         by (Some _) (second a b) g = absurd (let k = g in cc)
         by (Some _) (third a b c) g = absurd (let k = g in cc)
 
--- ---- all of them ----
+-- ---- all data segments ----
 
 one_less : (m : Module) (n : ℕ) (d : DataSeg) → slice_get m.datas n ≡ Some d → datas_from m n (drop n m.datas) ≡ record { part = 0; inst = own_inst m; address = n; segment = d } ∷ datas_from m (suc n) (drop (suc n) m.datas)
 one_less m n d at = rw (drop-cons m.datas n d (slice_get_within m.datas n d at), get_or_from_slice_get m.datas n d d at) refl
 
--- where the writing of the segments stands: the first so many are written, and of the others none is dropped
+-- The state after the first `n` data segments: these are copied, and none of the others is dropped.
 pub record Stands (m : Module) (first : Option Pages) (flags : List Bool) (n : ℕ) (p : Option Pages) (now : List Bool) : Type 0 where
   pub leads : (s : State) → datas_end m (data_state m s first flags) ≡ in_order (with_data m) (Finished (data_state m s p now)) (datas_from m n (drop n m.datas))
   pub many : length now ≡ length m.datas

@@ -1,4 +1,4 @@
--- What a call through a table reaches.
+-- The function that a call through a table reaches.
 use Rattle.base_lists.proofs.Common.{◌≡◌, ℕ, ◌-◌, ◌<◌, ◌≤◌, slice_get, true, false, Option, Some, None, refl, sym, ap, arith, each_same_self}
 use Rattle.base_lists.specs.Options.{◌>>=◌}
 use Rattle.wasm_tree_spec.specs.Prelude.{FuncType, Module, same_func_type, same_type}
@@ -13,7 +13,7 @@ use Rattle.eval_machine.specs.Prelude.{MachineFits, base_of}
 use Rattle.eval_machine.specs.Instructions.{ReachesThroughTable, type_matches}
 use Rattle.eval_machine.proofs.Funcs.{own_call, code_call, no_call}
 
--- a function that is not there has no type
+-- A function without a type matches no expected type.
 pub unmatched : (o x : Option FuncType) → x ≡ None → (o >>= λ t. x >>= λ u. Some (same_func_type t u)) ≡ Some true → ⊥
 unmatched None x e h = absurd (let k = h in cc)
 unmatched (Some t) x e h = absurd (let k = rw e at h in cc)
@@ -38,7 +38,7 @@ module _ (m : Module) (k : Kept) (v : ImportsAreTyped m) (f : MachineFits m k) (
     pub reaches_untyped : slice_get m.types ty ≡ None → ReachesThroughTable m ty func (act.Leaves (flow.Stopped why.Trap))
     reaches_untyped e = (own_none, λ h. absurd (let q = rw (matches_as, e) at h in cc))
 
-    -- the type that is asked for
+    -- The expected type is that of the index `ty`.
     module _ (asked : FuncType) (e : slice_get m.types ty ≡ Some asked) where
       pub reaches_same_index : g.ty ≡ ty → ReachesThroughTable m ty func (act.Calls func)
       reaches_same_index s = (refl, own_none, rw (matches_as, s, e) (ap Some (simp (each_same_self same_type (λ a. grind arith)))))

@@ -1,4 +1,4 @@
--- References to functions, and slots and sizes of tables.
+-- The instruction ref.func.
 use Rattle.base_lists.proofs.Common.{◌≡◌, ℕ, ◌<◌, ◌≤◌, arith, List, ◌∷◌, length, slice_get, Bool, false, Some, None, refl, inl, inr, IsTrue, cases_lt, slice_get_past, length-numbers}
 use Rattle.wasm_tree.specs.declared.instr.Instr.TheVariants as i
 use Rattle.wasm_tree_spec.specs.Prelude.{Instr, Module, funcs_of}
@@ -25,6 +25,6 @@ module _ (m : Module) (k : Kept) (n : ℕ) (vs us : List Val) where
       let at : slice_get (own_inst m).funcs n ≡ Some n = address_of (length (funcs_of m)) n lt in
       ends_on m (record { kept = k; operands = vs; locals = ls }) (i.RefFunc n) (Instr-F.RefFunc n) rest p es (i.outs-RefFunc n) (ref_still ls rest p es) (record { kept = k; operands = Ref (FuncRef (Some n)) ∷ vs; locals = ls }) (rw at) refl
 
--- what a test that holds below a number says where it does not hold
+-- A number is at least `k` if a test that holds below `k` does not hold.
 pub not_below : (n k : ℕ) (b : Bool) → b ≡ false → (n < k → IsTrue b) → k ≤ n
 not_below n k b e h = elim (cases_lt n k) [ inl lt ↦ absurd (let q = h lt in cc) | inr le ↦ le ]

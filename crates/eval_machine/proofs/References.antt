@@ -1,4 +1,5 @@
--- The values of globals of a machine that fits its module, after its instantiation with the start and after a call.
+-- The values of globals of a machine that fits its module, after its instantiation with the start
+-- and after a call.
 use Rattle.base_lists.proofs.Common.{◌≡◌, ◌∙◌, ℕ, ◌≤◌, arith, List, [], ◌∷◌, length, Bool, true, Option, Some, None, refl, sym, ap, length-append, length-map}
 use Rattle.std.specs.Prelude.{unwrap_or}
 use Rattle.block_pool.specs.Pages.{Pages}
@@ -50,7 +51,7 @@ module _ (m : Module) where
   }
 
   module _ (valid : IsValid m) where
-    -- after the instantiation with the start
+    -- The machine after the instantiation with the start.
     pub is_ready : EvaluatedRefsAreThere → EvaluatedGlobalsAreTyped → (k : Kept) → MachineFits m k → IsUnmarked k.memory → booted m MOST_TURNS ≡ Finished (state_in m k) → IsReady m k
     is_ready there typed k fits unmarked e =
         let none = ap (λ t. called_in_order m t []) e in
@@ -59,7 +60,7 @@ module _ (m : Module) where
           ends = e;
         }
 
-    -- after a call that comes to its end
+    -- The machine after a call that comes to its end.
     pub still_rests : CallsKeepRefs → CallsKeepTypes → (old new : Kept) (func : ℕ) → Rests m old → MachineFits m new → IsUnmarked new.memory → CallEnds m func old None new → Rests m new
     still_rests refs types old new func r fits unmarked e = record {
       fits = fits;

@@ -6,11 +6,11 @@ use Rattle.wasm_tree.specs.declared.instr.Instr.TheViews.{roll-Instr}
 use Rattle.wasm_tree.specs.declared.instr.Instr.TheOpen.{Instr-F}
 use Rattle.eval_machine.specs.Instructions.{is_plain, is_simple}
 
--- an instruction is what its one layer is
+-- An instruction is determined by its outer layer.
 rolled : (o : Instr) (z : Instr-F Instr) → out-Instr o ≡ z → o ≡ roll-Instr z
 rolled o z e = sym (roll-out-Instr o) ∙ ap roll-Instr e
 
--- it is none of these
+-- The instruction is no control instruction: no block, branch, return or call.
 pub record IsNoControl (o : Instr) : Type 0 where
   pub no_block : (b : BlockType) (body : List Instr) → o ≡ i.Block b body → ⊥
   pub no_loop : (b : BlockType) (body : List Instr) → o ≡ i.Loop b body → ⊥

@@ -1,4 +1,4 @@
--- Which places stand in the lists of unknown slots and items.
+-- The places in the lists of unknown slots and items.
 use Rattle.base_lists.proofs.Common.{◌≡◌, ℕ, zero, suc, ◌+◌, ◌<◌, ◌≤◌, List, [], ◌∷◌, map, length, Bool, true, false, cond, ◌&&◌, ◌||◌, Some, refl, sym, ap, ap₂, ◌∙◌, inl, inr, arith, nat_eq, nat_le, nat_lt, slice_get, is_some, filter, list_any, cases_eq, cases_lt, cases_order, lt-ltb, le-ltb}
 use Rattle.base_lists.proofs.Common.{le-leb, lt-leb, eq-eqb, ne_eqb, eqb-true, and_parts, list_any-append}
 use Rattle.std.specs.Prelude.{unwrap_or}
@@ -13,7 +13,7 @@ use Rattle.eval_spec.specs.Prelude.{any_in_row, reads_global, slots_from, unknow
 abbrev pub is_at : (a p : ℕ) → ℕ × ℕ → Bool
 is_at a p x = nat_eq x.0 a && nat_eq x.1 p
 
--- a row of one place is the place
+-- A row of one place has only this place.
 one_place : (p n : ℕ) → nat_le p n && nat_lt n (p + 1) ≡ nat_eq n p
 one_place p n = elim (cases_order n p) [
   | inl e ↦
@@ -31,7 +31,7 @@ pub row_of_one : (xs : List (ℕ × ℕ)) (a p : ℕ) → any_in_row xs a p 1 �
 row_of_one [] a p = refl
 row_of_one (x ∷ xs) a p = ap₂ (λ b c. (nat_eq x.0 a && b) || c) (one_place p x.1) (row_of_one xs a p)
 
--- a place stands in the part of a list that passes a test where it stands in the list and passes it
+-- A place is in a filtered list exactly if it is in the list and passes the test.
 pub among_filtered : (f : ℕ × ℕ → Bool) (xs : List (ℕ × ℕ)) (a p : ℕ) → is_place_among (filter f xs) a p ≡ f (a, p) && is_place_among xs a p
 among_filtered f xs a p = any-filter_same (is_at a p) f (f (a, p)) (λ x e. let both = and_parts (nat_eq x.0 a) (nat_eq x.1 p) e in ap₂ (λ m n. f (m, n)) (eqb-true x.0 a both.0) (eqb-true x.1 p both.1)) xs
 

@@ -1,4 +1,5 @@
--- What an active element segment does to the slots of a state (WebAssembly Core 2.0, section 4.5.4).
+-- What an active element segment does to the slots of a state (WebAssembly Core 2.0, section
+-- 4.5.4).
 use Rattle.base_lists.proofs.Common.{◌≡◌, ℕ, ℤ, suc, ◌+◌, ◌-◌, ◌<◌, ◌≤◌, List, length, Bool, true, false, cond, ◌&&◌, Option, Some, None, refl, sym, ap, ◌∙◌, inl, inr, ◌⊎◌, arith, subst, nat_eq, nat_le, nat_lt, slice_get, is_some, filter, cases_eq, cases_lt, lt-ltb, le-ltb, le-leb, lt-leb, eq-eqb}
 use Rattle.base_lists.proofs.Common.{ne_eqb, same_Some, slice_get_within, slice_get_past, all_there_length, all_there_at, is_some_there, and_false, right_true, set_at, set_other, slice_get_none, slice_get_there, numbers_at, numbers_is, length-numbers}
 use Rattle.std.proofs.Common.{length-append}
@@ -23,7 +24,7 @@ use Rattle.eval_machine.proofs.SlotPlaces.{row_of_one, among_filtered, slot_amon
 stands_too : (a b : Bool) (q r : Option RefVal) (x y : Slot) → a ≡ b → q ≡ r → x ≡ y → StandsAs a q x → StandsAs b r y
 stands_too a b q r x y e f g h = rw (← e, ← f, ← g) h
 
--- an item's slot holds what its expression gives
+-- The slot of an item holds the reference that its expression gives.
 pub item_stands : (m : Module) (x : ConstExpr) (r : RefVal) → (value_in m x >>= ref_of) ≡ Some r → StandsAs (reads_global x) (Some r) (item_slot x)
 item_stands m (const.I32 v) r e = absurd (let k = e in cc)
 item_stands m (const.I64 v) r e = absurd (let k = e in cc)
@@ -50,7 +51,7 @@ and_true false = refl
 is_there : (rs : List RefVal) (p : ℕ) → is_some (slice_get rs p) ≡ true → p < length rs
 is_there rs p e = let x = is_some_there (slice_get rs p) e in slice_get_within rs p x.0 x.1
 
--- a table that is defined has as many slots as it declares
+-- A defined table has as many slots as it declares.
 pub sized : (m : Module) (t : ℕ) (ty : TableType) → defined_table m t ≡ Some ty → slots_declared m t ≡ Some ty.limits.min
 sized m t ty e = by (nat_lt t (length (imported_tables m.imports))) e
   where
@@ -58,7 +59,7 @@ sized m t ty e = by (nat_lt t (length (imported_tables m.imports))) e
     by true e = absurd (let k = e in cc)
     by false e = rw e refl
 
--- a number of the tables' space is an address
+-- The index of a defined table is its address.
 table_there : (m : Module) (t : ℕ) (ty : TableType) → defined_table m t ≡ Some ty → slice_get (own_inst m).tables t ≡ Some t
 table_there m t ty e = by (cases_lt t (length (imported_tables m.imports)))
   where
@@ -72,7 +73,7 @@ table_there m t ty e = by (cases_lt t (length (imported_tables m.imports)))
         let z : 0 + t ≡ t = omega arith in
         numbers_at 0 (length (tables_of m)) t (omega (arith, lt, le, many)) ∙ ap Some z
 
--- one that is not there is none, where it is not imported
+-- An index that is neither of a defined nor of an imported table has no address.
 pub table_nowhere : (m : Module) (t : ℕ) → defined_table m t ≡ None → is_imported m Tables t ≡ false → slice_get (own_inst m).tables t ≡ None
 table_nowhere m t e off = by (cases_lt t (length (imported_tables m.imports)))
   where
@@ -85,7 +86,7 @@ table_nowhere m t e off = by (cases_lt t (length (imported_tables m.imports)))
         let many : length (tables_of m) ≡ length (imported_tables m.imports) + length m.tables = length-append (imported_tables m.imports) m.tables in
         slice_get_past (own_inst m).tables t (rw (length-numbers 0 (length (tables_of m))) (omega (arith, past, le, many)))
 
--- the segment at a place, with its references
+-- The element segment at an index, with its references.
 module _ (m : Module) (first : State) (starts : StartsAs m first) (s : State) (n : ℕ) (filled : List (ℕ × Slot)) (f : IsFilled m first n filled s) (e : ElemSeg) (at : slice_get m.elems n ≡ Some e)
     (refs : List RefVal) (given : refs_in m e.items ≡ Some refs) (stands : slice_get first.store.elems n ≡ Some (new_elem e.mode refs)) where
   abbrev pub task : PlacedSegment ElemSeg
@@ -94,7 +95,7 @@ module _ (m : Module) (first : State) (starts : StartsAs m first) (s : State) (n
   as_many : length refs ≡ length e.items
   as_many = all_there_length (λ x. value_in m x >>= ref_of) e.items refs given
 
-  -- it is active for this table and this place
+  -- The segment is active for this table and this place.
   module _ (table : ℕ) (v : ℤ) (is : e.mode ≡ elem.Active table (const.I32 v)) (ty : TableType) (there : defined_table m table ≡ Some ty) (t : Table) (has : slice_get s.store.tables table ≡ Some t) where
     abbrev place : ℕ
     place = wrapped 32 v
@@ -153,7 +154,7 @@ module _ (m : Module) (first : State) (starts : StartsAs m first) (s : State) (n
           ∙ (among_filtered test (slots_from 0 s.store.tables) u p
           ∙ ap (λ b. test (u, p) && b) (ap (λ a. is_place_among (slots_from 0 s.store.tables) a p) (sym z) ∙ slot_among s.store.tables 0 u p))
 
-      -- where nothing is copied to, what was unknown is
+      -- A slot to which nothing is copied is unknown exactly if it was before.
       unknown_stays : (u p : ℕ) → nat_eq u table && (nat_le place p && nat_lt p (place + length e.items)) ≡ false → is_unknown_in next u p ≡ is_unknown_in s u p
       unknown_stays u p off =
           let old : is_place_among s.unknown.slots u p ≡ is_unknown_in s u p = sym (row_of_one s.unknown.slots u p) in
@@ -169,7 +170,7 @@ module _ (m : Module) (first : State) (starts : StartsAs m first) (s : State) (n
           stands_too (is_unknown_in s u p) (is_unknown_in next u p) (ref_in s u p) (ref_in next u p) (slot_at m filled u p) (slot_at m new u p)
           (sym (unknown_stays u p off)) (sym ref) (ap (λ o. unwrap_or o (null_in (defined_table m u) p)) (sym held)) (f.slots u p lt)
 
-      -- a slot to which an item is copied
+      -- A slot to which an item is copied holds the slot of the item.
       filled_by : (k : ℕ) (x : ConstExpr) (r : RefVal) → slice_get e.items k ≡ Some x → slice_get refs k ≡ Some r → (value_in m x >>= ref_of) ≡ Some r → place + k < 4294967296 → IsSlot next table (place + k) (slot_at m new table (place + k))
       filled_by k x r item ref value lt =
           let less : k < length e.items = slice_get_within e.items k x item in

@@ -17,7 +17,7 @@ use Rattle.eval_machine.specs.Prelude.{CopiesItems, FillsTables, IsFilled, Start
 use Rattle.eval_machine.specs.Begun.{FillsByMode, FillsSlots, elem_stop, elems_from, has_slots, place_at}
 use Rattle.eval_machine.proofs.SlotsCopied.{task, goes, passes, sized, next, filled_next, table_nowhere}
 
--- which of the stops it is
+-- The stop of an element segment, if there is one, by the order of the tests.
 pub data StopIs (unknown there : Bool) : Option Stop → Type 0 where
   nothing : unknown ≡ false → there ≡ true → StopIs unknown there None
   first_ : unknown ≡ true → StopIs unknown there (Some why.Unknown)
@@ -28,7 +28,7 @@ stop_is true there = first_ refl
 stop_is false true = nothing refl refl
 stop_is false false = second refl refl
 
--- a segment that has its slots has a place and a table
+-- The place and the table of an element segment whose slots are there.
 pub record HasPlace (m : Module) (table : ℕ) (offset : ConstExpr) (count : ℕ) : Type 0 where
   pub value : ℤ
   pub is : offset ≡ const.I32 value
@@ -58,7 +58,7 @@ module _ (m : Module) (first : State) (starts : StartsAs m first) (s : State) (n
   abbrev run : (table : ℕ) (offset : ConstExpr) → Filled
   run table offset = run_elem_with (value_in m) s.store (task m first starts s n filled f e at refs given stands) (elem.Active table offset)
 
-  -- where the slots are not there, it traps
+  -- A segment whose slots are not there traps.
   traps : (table : ℕ) (offset : ConstExpr) → (reads_global offset || is_imported m Tables table) ≡ false → has_slots (defined_table m table) offset (length e.items) ≡ false → e.mode ≡ elem.Active table offset → (run table offset).trapped ≡ true
   traps table (const.I32 v) known off is = by (defined_table m table) refl off
     where
@@ -141,13 +141,13 @@ module _ (m : Module) (first : State) (starts : StartsAs m first) (s : State) (n
   elem_rests (inl is) = (rw is refl, filled_too)
   elem_rests (inr is) = (rw is refl, filled_too)
 
--- ---- all of them ----
+-- ---- all element segments ----
 
--- what is left of the segments, from a place on
+-- The segments from an index on are the one at the index and those after it.
 one_less : (m : Module) (n : ℕ) (e : ElemSeg) → slice_get m.elems n ≡ Some e → elems_from m n (drop n m.elems) ≡ record { part = 0; inst = own_inst m; address = n; segment = e } ∷ elems_from m (suc n) (drop (suc n) m.elems)
 one_less m n e at = rw (drop-cons m.elems n e (slice_get_within m.elems n e at), get_or_from_slice_get m.elems n e e at) refl
 
--- where the whole instantiation of tables stands
+-- The state after the first `n` element segments, whose slots are as `filled` says.
 pub record Stands (m : Module) (first : State) (n : ℕ) (filled : List (ℕ × Slot)) : Type 0 where
   pub state : State
   pub leads : elems_end m first ≡ in_order (with_elem m) (Finished state) (elems_from m n (drop n m.elems))
@@ -199,13 +199,13 @@ module _ (m : Module) (first : State) (starts : StartsAs m first) (n : ℕ) (fil
       let t = elem_stops m first starts stands.state n filled stands.filled_ e at r.0 r.1 r.2 table offset x is fills in
       ap stop_of (stands.leads ∙ (ap (in_order (with_elem m) (Finished stands.state)) (one_less m n e at) ∙ ap (λ x. in_order (with_elem m) x (elems_from m (suc n) (drop (suc n) m.elems))) t)) ∙ stopped x stands.state.turns (elems_from m (suc n) (drop (suc n) m.elems))
 
--- at the end of the list
+-- The state after all element segments.
 pub all_filled : (m : Module) (first : State) (filled : List (ℕ × Slot)) → Stands m first (length m.elems) filled → (s : State) × (elems_end m first ≡ Finished s) × IsFilled m first (length m.elems) filled s
 all_filled m first filled stands =
     let gone : drop (length m.elems) m.elems ≡ [] = drop-length m.elems in
     (stands.state, stands.leads ∙ ap (λ xs. in_order (with_elem m) (Finished stands.state) (elems_from m (length m.elems) xs)) gone, stands.filled_)
 
--- ---- one more of them ----
+-- ---- one more element segment ----
 
 abbrev pub AllStand : (m : Module) (n : ℕ) (filled : List (ℕ × Slot)) → Type 0
 AllStand m n filled = (first : State) → StartsAs m first → Stands m first n filled

@@ -1,11 +1,11 @@
--- Operands that are taken off together, and put back.
+-- Operands that are taken off the stack together, and put back.
 use Rattle.base_lists.proofs.Common.{◌≡◌, ℕ, zero, suc, ◌-◌, ◌<◌, ◌≤◌, arith, List, [], ◌∷◌, ◌++◌, length, take, drop, map, reverse, Bool, true, false, ◌&&◌, Some, None, refl, sym, ap, ◌∙◌, length-drop, length-map, length-reverse, map-append, reverse-append, take-append-drop}
 use Rattle.wasm_tree_spec.specs.Prelude.{ValType, same_type}
 use Rattle.wasm_meaning.specs.Prelude.{Gives, IllTyped, onto, split_at, Val, type_of, pop_typed}
 use Rattle.eval_machine.specs.Prelude.{are_typed}
 use Rattle.eval_machine.proofs.Typed.{onto_is}
 
--- what was pushed last comes first
+-- The stack of a list of values has the values pushed last first.
 pub stacked : {A B : Type 0} (f : A → B) (xs ys : List A) → reverse (map f (xs ++ ys)) ≡ reverse (map f ys) ++ reverse (map f xs)
 stacked f xs ys = ap reverse (map-append f xs ys) ∙ reverse-append (map f xs) (map f ys)
 
@@ -21,7 +21,7 @@ split_short (suc n) (x ∷ xs) lt = let less : length xs < n = omega (arith, lt)
 pub split_is : {A : Type 0} (n : ℕ) (xs ys : List A) → length xs ≡ n → split_at n (xs ++ ys) ≡ Some (xs, ys)
 split_is n xs ys e = rw (← e) (split_exact xs ys)
 
--- the last so many of a list are the first of it turned round
+-- The top `n` values of a stack are the last `n` of the list that the machine keeps.
 pub taken : {A B : Type 0} (f : A → B) (xs front back : List A) (n : ℕ) → n ≤ length xs → front ≡ take (length xs - n) xs → back ≡ drop (length xs - n) xs →
     split_at n (reverse (map f xs)) ≡ Some (reverse (map f back), reverse (map f front))
 taken f xs front back n le e g =
@@ -58,7 +58,7 @@ typed_not (t ∷ ts) [] below n e = absurd (omega (arith, n))
 typed_not (t ∷ ts) (v ∷ vs) below n e =
     let same : length vs ≡ length ts = omega (arith, n) in typed_not_at t ts v vs below (same_type t (type_of v)) (are_typed ts vs) refl refl e (λ f. typed_not ts vs (v ∷ below) same f)
 
--- the last so many of a list, in their order, lie on the others
+-- The last `n` values of a list, pushed in their order on the others, are the stack of the list.
 pub laid : {A B : Type 0} (f : A → B) (xs front back : List A) (n : ℕ) → n ≤ length xs → front ≡ take (length xs - n) xs → back ≡ drop (length xs - n) xs →
     (reverse (map f xs) ≡ onto (map f back) (reverse (map f front))) × (length (map f back) ≡ n)
 laid f xs front back n le e g =

@@ -1,4 +1,5 @@
--- What stays, step by step, and a machine of which it stays fits as before.
+-- The parts of a machine that steps preserve; a machine in which they are preserved fits its module
+-- as before.
 use Rattle.base_lists.proofs.Common.{◌≡◌, ℕ, zero, suc, ◌≤◌, arith, List, [], ◌∷◌, length, map, Option, Some, None, refl, sym, ap, ◌∙◌, slice_get, min}
 use Rattle.block_pool.specs.Pages.{Pages, WritesBytes}
 use Rattle.wasm_tree_spec.specs.Prelude.{Limits, Module}
@@ -24,7 +25,7 @@ memory_then (Some p) None r a b = elim a [ ]
 memory_then None None (Some r) a b = elim b [ ]
 memory_then (Some p) (Some q) None a b = elim b [ ]
 
--- nothing but turns is gone
+-- A machine that only spends turns keeps its other parts.
 pub stays_less : (k : Kept) (turns : ℕ) → turns ≤ k.turns → Stays k (record k { turns = turns })
 stays_less k turns le = record { slots = refl; imports = refl; dropped = refl; types = refl; imported = refl; memory = memory_stays k.memory; turns = le; undo = undo_same k.undo k.globals k.dropped }
 
@@ -55,7 +56,7 @@ memory_fits (l ∷ []) (Some p) None a f = elim a [ ]
 memory_fits (l ∷ []) None q a f = elim f [ ]
 memory_fits (l ∷ k ∷ ls) p q a f = elim f [ ]
 
--- as a test says of the one at a place
+-- Two lists that agree in which globals are imported agree in this at each index.
 same_at : (xs ys : List GlobalSlot) → map (λ g. is_of_import g.standing) ys ≡ map (λ g. is_of_import g.standing) xs → (n : ℕ) (g : GlobalSlot) → slice_get ys n ≡ Some g →
     (h : GlobalSlot) × (slice_get xs n ≡ Some h) × (is_of_import g.standing ≡ is_of_import h.standing)
 same_at xs [] e n g f = absurd (let k = f in cc)

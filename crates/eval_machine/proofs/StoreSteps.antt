@@ -1,4 +1,4 @@
--- Stores.
+-- The store instructions.
 use Rattle.base_lists.proofs.Common.{◌≡◌, ℕ, zero, suc, ◌+◌, ◌-◌, ◌/◌, ◌%◌, ◌<◌, ◌≤◌, arith, List, [], ◌∷◌, length, slice_get, false, Option, Some, None, Err, refl, ap}
 use Rattle.block_pool.specs.Pages.{Pages}
 use Rattle.block_pool.specs.Pages.{little_bytes as lowest_bytes}
@@ -65,15 +65,15 @@ module _ (m : Module) (k : Kept) (f : MachineFits m k) (o : StoreOp) (arg : MemA
     store_nowhere e = store_stops (λ ls rest p. rw e)
 
     module _ (pages : Pages) (t : IsThere m k f arg.memory pages) where
-      -- there is nothing to store
+      -- The stack is empty, so no value can be stored.
       pub store_nothing : vs ≡ [] → BeginsWith m stores k vs (Some why.Trap) k us
       store_nothing e = store_stops (λ ls rest p. rw (t.address, t.memory, e))
 
-      -- it has another type
+      -- The value has another type than the one that is stored.
       pub store_untyped : (v : Val) (below : List Val) → vs ≡ v ∷ below → num_of (store_from o) v ≡ None → BeginsWith m stores k vs (Some why.Trap) k us
       store_untyped v below e h = store_stops (λ ls rest p. rw (t.address, t.memory, e, h))
 
-      -- there is no place
+      -- The stack has no address below the value.
       pub store_no_place : (v : Val) (below : List Val) (n : ℕ) → vs ≡ v ∷ below → num_of (store_from o) v ≡ Some n → pop_num W32 below ≡ IllTyped → BeginsWith m stores k vs (Some why.Trap) k us
       store_no_place v below n e h g = store_stops (λ ls rest p. rw (t.address, t.memory, e, h, g))
 

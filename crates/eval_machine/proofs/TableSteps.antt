@@ -1,4 +1,4 @@
--- Slots and sizes of tables.
+-- The instructions table.get and table.size.
 use Rattle.base_lists.proofs.Common.{◌≡◌, ℕ, ◌+◌, ◌-◌, ◌<◌, ◌≤◌, arith, List, ◌∷◌, length, slice_get, true, false, Option, Some, None, refl, sym, ap, ◌∙◌, nat_lt, lt-ltb, le-ltb, length-append, same_Some, slice_get_past, slice_get_within, length-numbers, none_past}
 use Rattle.base_lists.specs.Options.{◌>>=◌}
 use Rattle.wasm_tree_spec.specs.Prelude.{Tables, TableType, Instr, Module, imported_tables, tables_of}
@@ -44,7 +44,7 @@ module _ (m : Module) (k : Kept) (f : MachineFits m k) (n : ℕ) where
     within_at None e count h = absurd (let q = h in cc)
     within_at (Some t) e count h = omega (arith, slice_get_within m.tables (n - length (imported_tables m.imports)) t e, le, counted, counts)
 
-    -- a table that has slots is there
+    -- A table that has slots is one of the module.
     within : (count : ℕ) → slot_count (base_of m) n ≡ Some count → n < length (tables_of m)
     within count h = within_at (slice_get m.tables (n - length (imported_tables m.imports))) refl count (rw past at (sym (f.sizes n) ∙ h))
 

@@ -1,4 +1,4 @@
--- What is told of a machine is told of its state.
+-- The values of globals, the bytes and the dropped segments of a machine are those of its state.
 use Rattle.base_lists.proofs.Common.{◌≡◌, ℕ, zero, suc, ◌+◌, ◌*◌, ◌<◌, List, [], ◌∷◌, map, length, Bool, true, false, cond, ◌||◌, Option, Some, None, refl, sym, ap, ◌∙◌, arith, slice_get, same_Some, length-map, map_at, push_last}
 use Rattle.base_lists.specs.Members.{is_among}
 use Rattle.std.specs.Prelude.{unwrap_or}

@@ -1,4 +1,5 @@
--- Values of types that are taken off, where only as many as there are types are looked at.
+-- Values that are taken off the stack by their types, which depends only on as many values as there
+-- are types.
 use Rattle.base_lists.proofs.Common.{◌≡◌, ℕ, zero, suc, ◌+◌, ◌<◌, ◌≤◌, arith, List, [], ◌∷◌, ◌++◌, length, reverse, Bool, true, false, Option, Some, None, refl, sym, ap, ◌∙◌, append_assoc}
 use Rattle.std.proofs.lemmas.Grind.{reverse_onto}
 use Rattle.std.proofs.lemmas.List.{append-nil}
@@ -16,7 +17,7 @@ onto_reverse xs = sym (append-nil (reverse xs)) ∙ sym (onto_is xs [])
 pub onto_below : {A : Type 0} (xs ys : List A) → onto xs [] ++ ys ≡ onto xs ys
 onto_below xs ys = ap (λ l. l ++ ys) (sym (onto_reverse xs)) ∙ sym (onto_is xs ys)
 
--- the last of one more type
+-- The values after one more value is taken off, by the last of the types.
 abbrev one_more : ValType → List Val × List Val → Outcome (List Val × List Val)
 one_more t p = bind (pop p.1) (λ q. bind (typed t q.0) (λ v. Gives (v ∷ p.0, q.1)))
 
@@ -58,11 +59,11 @@ no_trap : (ts : List ValType) (vs : List Val) → pop_typed ts vs ≡ Traps → 
 no_trap [] vs e = let g = e in cc
 no_trap (t ∷ ts) vs e = no_trap_at t (pop_typed ts vs) (no_trap ts vs) e
 
--- there are fewer values than types
+-- Fewer values than types cannot be taken off.
 pub pop_short : (ts : List ValType) (vs : List Val) → length vs < length ts → pop_typed ts vs ≡ IllTyped
 pop_short ts vs lt = short_at ts vs (pop_typed ts vs) refl lt (no_trap ts vs)
 
--- ---- what lies below is not looked at ----
+-- ---- the values below do not matter ----
 
 abbrev over : List Val → List Val × List Val → Outcome (List Val × List Val)
 over below p = Gives (p.0, p.1 ++ below)
@@ -82,7 +83,7 @@ pub pop_over : (ts : List ValType) (top below : List Val) → length ts ≤ leng
 pop_over [] top below le = refl
 pop_over (t ∷ ts) top below le = ap (λ o. bind o (one_more t)) (pop_over ts top below (omega (arith, le))) ∙ over_at t below (length ts) top (pop_typed ts top) le (pop_size ts top)
 
--- ---- as many values as there are types, and then these by their types ----
+-- ---- taking off as many values as there are types, and then these by their types ----
 
 abbrev first_of : {A : Type 0} → Option (A × A) → A → A
 first_of (Some p) a = p.0
@@ -125,6 +126,7 @@ cut_by f ts vs (Some (top, below)) e =
     let j = split_joins (length ts) vs top below e in
     cut_at f below (pop_typed ts top) ∙ ap (λ o. bind o (λ p. f p.0)) (sym (pop_over ts top below (omega (arith, j.1))) ∙ ap (pop_typed ts) j.0)
 
--- the results of a frame are the same where as many values are taken off first
+-- The results of a frame are the same if as many values are taken off before they are taken by
+-- their types.
 pub results_cut : {A : Type 0} (f : List Val → Outcome A) (ts : List ValType) (vs : List Val) → bind (or_ill_typed (split_at (length ts) vs)) (λ q. bind (pop_typed ts q.0) (λ p. f p.0)) ≡ bind (pop_typed ts vs) (λ p. f p.0)
 results_cut f ts vs = cut_by f ts vs (split_at (length ts) vs) refl

@@ -1,4 +1,5 @@
--- What was noted of globals and data segments still says, after each change and each step back, what these were at the mark.
+-- The notes of the undo log still say, after each change and each step back, what the globals and
+-- data segments were at the mark.
 use Rattle.base_lists.proofs.Common.{◌≡◌, ℕ, zero, suc, ◌<◌, ◌||◌, List, [], ◌∷◌, ◌++◌, length, Bool, true, false, cond, Option, Some, None, IsSome, nat_eq, refl, sym, ap, ap₂, ◌∙◌, inl, inr, subst, true≢false, slice_get, slice_set, same_Some, same_number, cases_eq, eq-eqb, slice_get_within, set_at}
 use Rattle.base_lists.proofs.Common.{set_other, length-set, or-false, or-true, among_append}
 use Rattle.std.specs.Option.{option_or}
@@ -39,7 +40,7 @@ noted_push (x ∷ es) e n = by (nat_eq n x.global) (noted_push es e n)
     by true h = refl
     by false h = h
 
--- a global that is noted as it is
+-- A note of a global's present value does not change what the notes say.
 pub before_noted : (es : List EarlierGlobal) (now : List GlobalSlot) (e : EarlierGlobal) → slice_get now e.global ≡ Some e.before → (n : ℕ) → global_before (es ++ e ∷ []) now n ≡ global_before es now n
 before_noted es now e at n = ap (λ o. option_or o (slice_get now n)) (noted_push es e n) ∙ by (noted_global es n)
   where
@@ -51,7 +52,7 @@ before_noted es now e at n = ap (λ o. option_or o (slice_get now n)) (noted_pus
     by (Some g) = refl
     by None = here (nat_eq n e.global) refl
 
--- a noted global that is set
+-- A set of a noted global does not change what the notes say.
 pub before_set : (es : List EarlierGlobal) (now : List GlobalSlot) (k : ℕ) (g : GlobalSlot) → IsSome (noted_global es k) → (n : ℕ) → global_before es (slice_set now k g) n ≡ global_before es now n
 before_set es now k g noted n = elim (cases_eq n k) [
   | inl same ↦ by (noted_global es n) (rw same noted)
@@ -62,7 +63,7 @@ before_set es now k g noted n = elim (cases_eq n k) [
     by (Some x) h = refl
     by None h = absurd (let k = h in cc)
 
--- the global that was noted last, put back
+-- The notes say the same once the global that was noted last is put back and its note removed.
 before_back : (es : List EarlierGlobal) (now : List GlobalSlot) (e : EarlierGlobal) → e.global < length now → (n : ℕ) → global_before (es ++ e ∷ []) now n ≡ global_before es (slice_set now e.global e.before) n
 before_back es now e lt n = ap (λ o. option_or o (slice_get now n)) (noted_push es e n) ∙ by (noted_global es n) refl
   where
@@ -88,7 +89,7 @@ there {A = A} xs n h = by (slice_get xs n) refl h
     by (Some x) e h = slice_get_within xs n x e
     by None e h = absurd (let k = h in cc)
 
--- one note is put back
+-- The globals at the mark stay the same after one note is put back.
 pub one_back : (es : List EarlierGlobal) (now gs : List GlobalSlot) (e : EarlierGlobal) → AreGlobalsBefore (es ++ e ∷ []) now gs → AreGlobalsBefore es (slice_set now e.global e.before) gs
 one_back es now gs e before =
     let lt : e.global < length gs = there gs e.global (subst IsSome (sym (before.each e.global)) (is_last es now e)) in
@@ -143,7 +144,7 @@ noted_popped es flags e noted n at = by (nat_eq n e.global) refl
 one_among : (ds : List ℕ) (k n : ℕ) → is_among (ds ++ k ∷ []) n ≡ (is_among ds n || nat_eq n k)
 one_among ds k n = among_append ds (k ∷ []) n ∙ ap (λ b. is_among ds n || b) (or-false (nat_eq n k))
 
--- a segment that is dropped
+-- A segment that is dropped and noted does not change what the notes say.
 pub segment_dropped : (ds : List ℕ) (now : List Bool) (k : ℕ) → slice_get now k ≡ Some false → (n : ℕ) → segment_before (ds ++ k ∷ []) (slice_set now k true) n ≡ segment_before ds now n
 segment_dropped ds now k at n = ap (λ b. cond b (Some false) (slice_get (slice_set now k true) n)) (one_among ds k n) ∙ by (is_among ds n) (nat_eq n k) refl
   where
@@ -152,7 +153,7 @@ segment_dropped ds now k at n = ap (λ b. cond b (Some false) (slice_get (slice_
     by false true h = sym at ∙ ap (slice_get now) (sym (same_number n k h))
     by false false h = set_other now k n true (unequal n k h)
 
--- the segment that was dropped last, put back
+-- The notes say the same once the segment that was dropped last is put back and its note removed.
 segment_back : (ds : List ℕ) (now : List Bool) (k : ℕ) → k < length now → (n : ℕ) → segment_before (ds ++ k ∷ []) now n ≡ segment_before ds (slice_set now k false) n
 segment_back ds now k lt n = ap (λ b. cond b (Some false) (slice_get now n)) (one_among ds k n) ∙ by (is_among ds n) (nat_eq n k) refl
   where
@@ -173,7 +174,7 @@ one_segment_back ds now flags k before =
 pub all_segments_back : (now flags : List Bool) → AreSegmentsBefore [] now flags → now ≡ flags
 all_segments_back now flags before = same_lists now flags (λ n. sym (before.each n))
 
--- ---- both ----
+-- ---- globals and data segments ----
 
 pub undo_same : (c : UndoLog) (gs : List GlobalSlot) (flags : List Bool) → UndoStays c gs flags c gs flags
 undo_same c gs flags = record { flags = λ h. h; globals = λ n. refl; segments = λ n. refl }

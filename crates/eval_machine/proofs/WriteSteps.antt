@@ -1,4 +1,5 @@
--- An instruction that writes the memory, with the tests in their order and what it leaves.
+-- An instruction that writes the memory: its tests in their order, and the pages and turns that it
+-- leaves.
 use Rattle.base_lists.proofs.Common.{◌≡◌, ℕ, ◌+◌, ◌-◌, ◌/◌, ◌%◌, ◌≤◌, List, [], ◌∷◌, length, replicate, Bool, true, false, Option, Some, None, refl, ap, arith, nat_lt, ltb-true, ltb-false, length-replicate}
 use Rattle.std.proofs.Common.{length-drop, length-take-le}
 use Rattle.block_pool.specs.Pages.{Pages, part, size, with_reached}
@@ -21,7 +22,8 @@ module _ (m : Module) (k : Kept) (f : MachineFits m k) (n : ℕ) (pages : Pages)
   abbrev before : Registers
   before = record { kept = k; operands = vs; locals = ls }
 
-  -- it grows nothing, writes no table, uses nothing unknown, calls no import, and opens nothing
+  -- The instruction grows nothing, writes no table, uses nothing unknown, calls no import, and
+  -- opens nothing.
   pub record IsWrite (place : ℕ) (bytes : List ℕ) (below : List Val) : Type 0 where
     pub layer : out-Instr o ≡ z
     pub grow : grows z ≡ false
@@ -63,7 +65,7 @@ module _ (m : Module) (k : Kept) (f : MachineFits m k) (n : ℕ) (pages : Pages)
     pub write_begins : (stop : Option Stop) → (stop, turns) ≡ told_of (first_held (write_tests k.turns pages place (length bytes))) left → Wrote stop pages after place bytes → WritesTo below stop after turns
     write_begins stop told wrote = by_tests _ _ _ refl refl refl stop told wrote
 
--- ---- the two forms of what is written ----
+-- ---- two forms of the write ----
 
 pub wrote_form : (mem : Memory) (a : ℕ) (h : Body) (o : Option (List ℕ)) →
     bind (bind (or_trap o) (λ b. Gives (record mem { bytes = b }))) (λ w. Gives (Goes (SetMemory a w) h)) ≡ bind (or_trap o) (λ b. Gives (Goes (SetMemory a (record mem { bytes = b })) h))
@@ -71,7 +73,7 @@ wrote_form mem a h None = refl
 wrote_form mem a h (Some b) = refl
 
 module _ (m : Module) (k : Kept) (f : MachineFits m k) (n : ℕ) (pages : Pages) (t : IsThere m k f n pages) (own : is_imported m Memories n ≡ false) (holds : k.memory ≡ Some pages) (vs below : List Val) where
-  -- with what the write leaves
+  -- An instruction that writes begins with the pages and turns that the write leaves.
   pub begins_from : (o : Instr) (z : Instr-F Instr) (stop : Option Stop) (after : Pages) (turns : ℕ) → ((ls : List Val) (rest : List Instr) (p : LevelPlace) (es : List Entry) → WritesTo m k f n pages t o z vs ls rest p es below stop after turns) →
       BeginsWith m o k vs stop (record k { memory = Some after; turns = turns }) below
   begins_from o z None after turns w = w

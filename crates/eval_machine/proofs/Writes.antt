@@ -1,4 +1,4 @@
--- Which blocks a write reaches, and the stops that it is tested for.
+-- The blocks that a write reaches, and the stops of a write.
 use Rattle.base_lists.proofs.Common.{◌≡◌, refl, ℕ, suc, ◌+◌, ◌-◌, ◌/◌, ◌≤◌, arith, List, [], ◌∷◌, length, Bool, true, false, cond, ◌||◌, Some, None, ap, inl, inr, count_by, nat_lt, le-ltb, lt-ltb}
 use Rattle.std.proofs.lemmas.List.Sums.{sum_by-cons}
 use Rattle.block_pool.specs.Pages.{IsWidth, Pages, Passes, reaches, size, with_reached}
@@ -8,7 +8,7 @@ use Rattle.eval_spec.specs.Prelude.{first_held, test, too_many_blocks}
 use Rattle.eval_machine.specs.Prelude.{HoldsMost, told_of, write_tests}
 use Rattle.eval_machine.specs.Written.{bounds_tests}
 
--- no more blocks count as written than there are
+-- No more blocks count as written than there are.
 one_each : (b : Bool) → cond b 1 0 ≤ 1
 one_each true = omega arith
 one_each false = omega arith
@@ -18,7 +18,7 @@ counted_within place count block [] = let none : count_by {X = Bool} (λ w. w) [
 counted_within place count block (w ∷ ws) =
     omega (arith, one_each (w || reaches place count block), sum_by-cons (λ (b : Bool). cond b 1 0) (w || reaches place count block) (with_reached place count (suc block) ws), counted_within place count (suc block) ws)
 
--- more blocks than the pages may write are more than an evaluation may
+-- A write that the pages do not allow writes too many blocks for an evaluation.
 pub passes_too_many : (p : Pages) (place count : ℕ) → HoldsMost p → Passes p place count → too_many_blocks (with_reached place count 0 p.now.written) ≡ true
 passes_too_many p place count h q =
     lt-ltb MOST_BLOCKS (count_by (λ w. w) (with_reached place count 0 p.now.written)) (omega (arith, counted_within place count 0 p.now.written, h, q))

@@ -1,4 +1,5 @@
--- Numbers are in range in the store after the instantiation of a valid module, and no reference in it is the embedder's.
+-- Numbers are in range in the store after the instantiation of a valid module, and no reference in
+-- it is a non-null external one.
 use Rattle.base_lists.proofs.Common.{◌≡◌, ◌∙◌, ℕ, suc, ◌*◌, ◌^◌, ◌<◌, ◌≤◌, arith, List, [], ◌∷◌, length, map, Bool, true, false, cond, Option, Some, None, slice_get, refl, sym, subst, nat_lt, same_Some, slice_get_within, every_at, copies_length}
 use Rattle.std.specs.Option.{IfSome}
 use Rattle.base_lists.specs.Every.{Every}
@@ -24,7 +25,8 @@ use Rattle.eval_numbers_proof.proofs.Steps.{DataIn, ElemIn, EntryIn, GlobalIn, M
 
 -- ---- lists ----
 
--- what follows from what was found
+-- A property of the result of a computation that may fail: its first part, if it succeeds, may be
+-- taken as given.
 there_is : {A B : Type 0} (Q : B → Type 0) (o : Option A) (f : A → Option B) → ((a : A) → o ≡ Some a → IfSome (f a) Q) → IfSome (o >>= f) Q
 there_is Q None f h = tt
 there_is Q (Some a) f h = h a refl
@@ -116,7 +118,7 @@ module _ (m : Module) where
 
 -- ---- segments ----
 
--- the numbers of a stage
+-- The numbers of a stage are in range, and its references are null or functions.
 abbrev pub HeldIn : Stage → Type 0
 HeldIn (Going s es) = StoreIn s.store × Every EntryIn es
 HeldIn (Finished s) = StoreIn s.store
@@ -219,7 +221,7 @@ module _ (m : Module) where
   filled_held turns None h = tt
   filled_held turns (Some s) h = segments_held s h
 
-  -- after the instantiation
+  -- The stage after the instantiation of a module that begins in range.
   pub instantiated_in : ItemsHold m → BeginsInRange m → (turns : ℕ) → HeldIn (instantiated m turns)
   instantiated_in items begins turns = by (nat_lt 1 (length (memories_of m))) (filled_held turns (state_at_first m turns) (at_first_in m items begins turns))
     where

@@ -1,4 +1,5 @@
--- Numbers stay in range in each state to which an evaluation comes, and no global holds a reference of the embedder's.
+-- Numbers stay in range in each state that an evaluation reaches, and no global holds a non-null
+-- external reference.
 use Rattle.base_lists.proofs.Common.{◌≡◌, ℕ, zero, suc, ◌-◌, List, [], ◌∷◌, Option, Some, None, slice_get, subst, every_at}
 use Rattle.base_lists.specs.Every.{Every}
 use Rattle.wasm_tree_spec.specs.Prelude.{Module}

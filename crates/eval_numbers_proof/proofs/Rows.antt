@@ -1,4 +1,6 @@
--- A small module of bytes, and one that holds more than a byte: what it loads is no i32. And a small module of references, of which the law speaks.
+-- Small modules: one whose data segment holds a byte, one whose data segment holds a greater
+-- number, so that it loads a number that is not an i32, and one with references, which begins in
+-- range.
 use Rattle.base_lists.proofs.Common.{◌≡◌, refl, subst, ℕ, arith, zero, suc, pos, List, [], ◌∷◌, map, Option, Some, None, true, slice_get}
 use Rattle.base_lists.specs.Every.{Every}
 use Rattle.base_lists.specs.Options.{◌>>=◌}
@@ -19,7 +21,7 @@ use Rattle.wasm_meaning.specs.Prelude.{FuncRef, ExternRef, Val, Num, Ref}
 use Rattle.eval_spec.specs.Prelude.{state_of, evaluated}
 use Rattle.eval_numbers_proof.specs.Ranges.{BeginsInRange, IsExpressible, ValInRange}
 
--- function 0 loads byte 0 of the memory into global 0
+-- A module whose function 0 loads byte 0 of the memory into global 0.
 abbrev loads : (byte : ℕ) → Module
 loads byte = record {
   types = record { params = []; results = [] } ∷ [];
@@ -34,7 +36,7 @@ loads byte = record {
   datas = record { mode = data'.Active 0 (const.I32 (pos 0)); bytes = byte ∷ [] } ∷ [];
 }
 
--- the value of global 0 after a call of function 0
+-- The value of global 0 after a call of function 0.
 abbrev loaded_by : Module → Option Val
 loaded_by m = state_of (evaluated m (0 ∷ [])) >>= λ s. slice_get s.store.globals 0 >>= λ g. Some g.value
 
@@ -72,7 +74,8 @@ null_func = record { ty = record { ty = RefT reft.Func; mutable = true }; init =
 abbrev slot_zero : ElemSeg
 slot_zero = record { mode = elem.Active 0 (const.I32 (pos 0)); ty = reft.Func; items = const.Func 0 ∷ [] }
 
--- both globals are null at first; function 0 sets the second to what is in slot 0, which is itself
+-- A module whose globals are both null at first. Function 0 sets the second to the content of slot
+-- 0, which is function 0.
 abbrev refers : Module
 refers = record {
   types = nothing ∷ [];
@@ -121,7 +124,7 @@ it_is_valid = (
 it_begins : BeginsInRange refers
 it_begins = record { tables = (omega arith, tt); datas = tt }
 
--- the values of the globals after a call of function 0
+-- The values of the globals after a call of function 0.
 abbrev left_in : Module → Option (List Val)
 left_in m = state_of (evaluated m (0 ∷ [])) >>= λ s. Some (map (λ g. g.value) s.store.globals)
 

@@ -1,4 +1,5 @@
--- A step keeps the numbers of the store and of the configuration in the ranges of their types, and brings no reference of the embedder's among them.
+-- A step keeps the numbers of the store and of the configuration in the ranges of their types, and
+-- their references null or functions.
 use Rattle.base_lists.proofs.Common.{◌≡◌, ℕ, ◌+◌, ◌%◌, ◌^◌, ◌<◌, ◌≤◌, arith, List, [], ◌∷◌, length, drop, slice_get, unwrap_or, nat_eq, mod-lt, every_at}
 use Rattle.base_lists.specs.Every.{Every}
 use Rattle.wasm_tree_spec.specs.Prelude.{ValType, BlockType, Instr, out-Instr, LoadOp, StoreOp, same_func_type, same_ref}
@@ -21,7 +22,7 @@ use Rattle.eval_numbers_proof.proofs.Values.{Vals, then_all, found_all, within_a
 
 -- ---- the store and the configuration ----
 
--- bytes are below 256, and pages and bytes so many as an i32 can say, or one more
+-- A memory whose bytes are below 256, with fewer than 2 ^ 32 pages and at most 2 ^ 32 bytes.
 abbrev pub MemoryIn : Memory → Type 0
 MemoryIn x = Every IsByte x.bytes × (x.pages < 2 ^ 32) × (length x.bytes ≤ 2 ^ 32)
 

@@ -1,4 +1,5 @@
--- What is taken from a stack of values of the module's own (numbers in range, nulls, functions) is one, and so is what an instruction on values puts there.
+-- Values that are expressible (numbers in range, null references and functions): a value that is
+-- taken from a stack of them is one, and so is the result of an instruction on them.
 use Rattle.base_lists.proofs.Common.{◌≡◌, ℕ, zero, suc, ◌+◌, ◌*◌, ◌^◌, ◌<◌, ◌/◌, arith, Bool, true, false, cond, List, [], ◌∷◌, length, Option, Some, None, subst, sym, nat_eq, mod-lt}
 use Rattle.std.specs.Option.{IfSome}
 use Rattle.std.proofs.Math.Nat.{pow-succ'}

@@ -1,4 +1,5 @@
--- A step over another store writes at addresses that are related to those at which the quiet step writes.
+-- A step over another store writes at addresses that are related to those at which the quiet step
+-- writes.
 use Rattle.base_lists.proofs.Common.{◌≡◌, ◌∙◌, ℕ, List, [], ◌∷◌, Option, Some, None, Bool, true, false, cond, not, refl, sym, subst, slice_get, nat_eq, filter, eqb-false, ne_eqb, set_other}
 use Rattle.base_lists.specs.Members.{is_among}
 use Rattle.base_lists.proofs.Every.{every_with}
@@ -23,13 +24,14 @@ use Rattle.eval_proof.proofs.Operands.{Known, op_known}
 use Rattle.eval_proof.proofs.Quiet.{neither, every_false, none_held, goes_on_quietly}
 use Rattle.eval_proof.proofs.KnownSteps as steps
 
--- ---- what the other step touches ----
+-- ---- what the step over the other store touches ----
 
--- the instruction sets the global at this address
+-- The instruction sets the global at this address.
 data Sets (i : Inst) (a : ℕ) : Instr-F Instr → Type 0 where
   sets : {n : ℕ} → slice_get i.globals n ≡ Some a → Sets i a (Instr-F.GlobalSet n)
 
--- what is touched is related to something; a global to the one that the quiet step sets
+-- Each touched memory is related to something, and a touched global to the one that the quiet step
+-- sets; no table and no element segment is touched.
 abbrev Told : Pairing → (sets : ℕ → Type 0) → Touched → Type 0
 Told R set Nothing = Unit {0}
 Told R set (Bytes b place count) = (a : ℕ) × R.of Memories a b
@@ -100,7 +102,7 @@ SetsTop i (l ∷ ls) a = SetsIn i l.code a
 
 -- ---- what a change leaves ----
 
--- what is touched may be something else afterwards
+-- Each touched place may have changed: it is related to something, a global to one that is known.
 abbrev Touchable : Pairing → Unknowns → Touched → Type 0
 Touchable R u = Told R (λ a. is_among u.globals a ≡ false)
 
@@ -177,7 +179,7 @@ module _ (R : Pairing) (u : Unknowns) (x : Store) where
   step_alone : StepsWriteWhatTheyTouch → (g : Frame) (fs : List Entry) → ((t : Touched) → touched x g ≡ Gives t → Touchable R u t) → AllOf AloneNext (step x (Running g ∷ fs))
   step_alone touches g fs touch = with_is (act x g) _ (λ a is. perform_alone g fs a (touched x g) (touches x g a is) touch)
 
--- ---- the global that the quiet step sets is known afterwards ----
+-- ---- the global that the quiet step sets is known after it ----
 
 forgotten : (xs : List ℕ) (a : ℕ) → is_among (filter (λ b. not (nat_eq b a)) xs) a ≡ false
 forgotten [] a = refl
@@ -229,7 +231,7 @@ module _ (m : Module) (of named : Space → ℕ → ℕ → Bool) (all : Relates
   abbrev R : Pairing
   R = steps.R m of named all
 
-  -- what is so of the instruction that comes next
+  -- The next instruction changes no table, and its operands are related.
   abbrev NextIn : Inst → Inst → List Instr → Type 0
   NextIn i j [] = Unit {0}
   NextIn i j (o ∷ rest) = (changes_table (out-Instr o) ≡ false) × Every (Known R i j) (operands (out-Instr o))
@@ -260,7 +262,8 @@ module _ (m : Module) (of named : Space → ℕ → ℕ → Bool) (all : Relates
   levels_told i j z (l ∷ ls) [] k r = elim r [ ]
   levels_told i j z (l ∷ ls) (n ∷ ks) k (cons r rest) = code_told i j z l.code n.code k n.values r.code
 
-  -- whatever the quiet step comes to
+  -- Any step that nothing stops leaves the unrelated parts of the other store alone, whatever it
+  -- gives.
   pub alone_at : StepsWriteWhatTheyTouch → (s : State) (u : Unknowns) (n : Next) (es : List Entry) → FramesOf (own_inst m) es → first_held (tests m s es) ≡ None → step s.store es ≡ Gives n → u ≡ left_unknown s.unknown s.store es →
       (x : Store) (fs : List Entry) → ListRel (EntryRel R) es fs → AllOf (AloneNext R u x) (step x fs)
   alone_at touches s u n (Running f ∷ es) frames free is left x (Running g ∷ fs) (cons (running fr) rest) =

@@ -1,4 +1,5 @@
--- An instantiation with more turns does the same: its segments cost none, and its start is a call.
+-- An instantiation with more turns does the same: its segments take no turns, and its start is a
+-- call.
 use Rattle.base_lists.proofs.Common.{◌≡◌, ◌∙◌, ℕ, ◌+◌, List, [], ◌∷◌, length, Option, Some, None, Bool, true, false, cond, ◌||◌, refl, ap, nat_lt}
 use Rattle.base_lists.specs.Options.{◌>>=◌}
 use Rattle.wasm_tree_spec.specs.Prelude.{ElemSeg, ElemMode, DataSeg, DataMode, Module, memories_of, Tables, Memories}
@@ -51,7 +52,7 @@ module _ (m : Module) (d : ℕ) where
       ap (λ t. in_order (with_data m) t datas) (in_order_same (with_elem m) (λ s x. elem_mode_same s x x.segment.mode) (Finished s) elems)
       ∙ in_order_same (with_data m) (λ s x. data_mode_same s x x.segment.mode) (in_order (with_elem m) (Finished s) elems) datas
 
-  -- the state at first, over what the module defines
+  -- The state before any segment is copied, from the store that the module defines.
   abbrev at_first : (turns : ℕ) → Store → State
   at_first turns defined = record { store = joined_stores (imported_store m) defined; unknown = unknown_at_first m; written = none_written m.mems; turns = turns }
 

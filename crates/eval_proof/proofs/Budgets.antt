@@ -1,4 +1,4 @@
--- An evaluation with more turns does the same, unless it stops for want of turns.
+-- An evaluation with more turns does the same, unless it stops because turns run out.
 use Rattle.base_lists.proofs.Common.{◌≡◌, ◌∙◌, ℕ, ◌+◌, ◌-◌, ◌<◌, List, [], ◌∷◌, Option, Some, None, Bool, true, false, refl, sym, ap, subst, slice_get, arith, nat_eq, nat_lt, eqb-false, ltb-false, ne_eqb, le-ltb}
 use Rattle.wasm_tree_spec.specs.Prelude.{Instr, Module}
 use Rattle.wasm_tree.specs.declared.instr.Instr.TheOpen.{Instr-F}
@@ -14,7 +14,9 @@ use Rattle.eval_proof.proofs.Quiet.{none_held}
 
 -- ---- tests with more turns ----
 
--- test by test the second tests what the first does, and where the first does not want turns it finds the same, with so many turns more
+-- Two lists of tests whose stops are the same, test by test: a test of the first list that holds,
+-- and is not for turns, holds in the second with `d` more turns left, and one that does not hold
+-- does not hold in the second.
 SameTests : ℕ → List Test → List Test → Type 0
 SameTests d [] [] = Unit {0}
 SameTests d [] (u ∷ us) = ⊥
@@ -25,12 +27,12 @@ no_tests : (d : ℕ) → SameTests d [] []
 unfolding SameTests
 no_tests d = tt
 
--- a test that does not ask for turns
+-- A test that does not depend on turns is first in both lists.
 same_test : (d : ℕ) (b : Bool) (x : Stop) (l k : ℕ) (ts us : List Test) → k ≡ l + d → SameTests d ts us → SameTests d (test b x l ∷ ts) (test b x k ∷ us)
 unfolding SameTests
 same_test d b x l k ts us e rest = (refl, ((λ h n. (h, e)), (λ h. (h, rest))))
 
--- and one that does
+-- A test for turns is first in both lists.
 turn_test : (d : ℕ) (b c : Bool) (l k : ℕ) (ts us : List Test) → (b ≡ false → c ≡ false) → (b ≡ false → SameTests d ts us) → SameTests d (test b why.Steps l ∷ ts) (test c why.Steps k ∷ us)
 unfolding SameTests
 turn_test d b c l k ts us f g = (refl, ((λ h n. absurd (n refl)), (λ h. (f h, g h))))
@@ -146,7 +148,7 @@ module _ (m : Module) (d : ℕ) where
   run_same : (t : Stage) → HasTurns (run_end m t) → run_end m (with_turns d t) ≡ with_turns d (run_end m t)
   run_same t q = quiet_ends_are_unique m (with_turns d t) (with_turns d (run_end m t)) (comes_same (ends_are_reached m t) q) (ends_same (run_end m t) ∙ runs_end m t)
 
-  -- ---- a call of the host ----
+  -- ---- a call by the embedder ----
 
   host_same : (s : State) (f : Func) → SameTests d (host_tests s f) (host_tests (more_turns d s) f)
   host_same s f =
@@ -171,7 +173,7 @@ module _ (m : Module) (d : ℕ) where
       let began = had_turns (ends_are_reached m (host_call s func)) q in
       ap (run_end m) (there_same s (slice_get s.store.funcs func) began) ∙ run_same (host_call s func) q
 
-  -- what comes of calls that follow
+  -- Calls in order stop for want of turns if the stage before them did.
   pub kept_turns : (t : Stage) (funcs : List ℕ) → HasTurns (called_in_order m t funcs) → HasTurns t
   kept_turns (Finished s) funcs q = λ e. absurd (let k = e in cc)
   kept_turns (Going s es) funcs q = q

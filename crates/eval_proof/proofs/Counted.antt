@@ -11,7 +11,7 @@ over_state (Finished s) e = (s, refl)
 over_state (Going s es) e = absurd (true≢false (sym e))
 over_state (Stopped x left) e = absurd (true≢false (sym e))
 
--- calls after what is not over leave it
+-- Calls in order that finish begin at a stage that is finished.
 began_over : (m : Module) (t : Stage) (funcs : List ℕ) → is_finished (called_in_order m t funcs) ≡ true → is_finished t ≡ true
 began_over m (Finished s) funcs e = refl
 began_over m (Going s es) funcs e = e

@@ -10,9 +10,10 @@ use Rattle.wasm_meaning.specs.Prelude.{perform, step}
 use Rattle.wasm_meaning.proofs.Outcomes.{AllOf, ill_typed, stopped, just, cond_all, with_is, with_found, with_within, all_at}
 use Rattle.eval_spec.specs.Prelude.{stack_depth}
 
--- ---- what an act leaves open of its frame ----
+-- ---- the frames and labels that an act leaves open in its frame ----
 
--- at most so many frames and labels are open in the frame once this is done, with the frame that a call opens
+-- After the act at most `n` frames and labels are open in the frame, with the frame that a call
+-- opens.
 abbrev Opened : ℕ → Act → Type 0
 Opened n (Goes c h) = suc (length h.outer) ≤ n
 Opened n (Calls a vs h) = suc (suc (length h.outer)) ≤ n
@@ -30,7 +31,7 @@ drop_short (suc n) [] = same _
 drop_short (suc n) (x ∷ xs) = let h = drop_short n xs in omega (arith, h)
 
 module _ (env : Env) where
-  -- what may be open after an instruction: one more than before
+  -- An instruction leaves at most one more frame or label open than before.
   abbrev Next_all : Body → Outcome Act → Type 0
   Next_all h = AllOf (Opened (suc (suc (length h.outer))))
 
@@ -151,7 +152,7 @@ module _ (env : Env) where
   exec_all (Instr-F.TableSize n) h = with_table_all h n _ (λ a t. just (more _))
   exec_all (Instr-F.TableFill n) h = with_table_all h n _ (λ a t. fill_table_all h a t)
 
--- ---- what a step leaves open of all ----
+-- ---- the frames and labels that a step leaves open ----
 
 abbrev pub DepthAtMost : ℕ → Next → Type 0
 DepthAtMost n (Ran t fs) = stack_depth fs ≤ n
@@ -182,8 +183,8 @@ perform_depth s f es n k (Calls a vs h) o le =
 perform_depth s f es n k (AsksGrow g size count h) o le = just tt
 perform_depth s f es n k (Ends vs) o le = with_is (pop_typed f.results vs) _ (λ p _. give_depth s p.0 es k (omega (arith, le)))
 
--- where a level ends one is closed, and where an instruction begins one more may be open
--- the frame at its innermost level
+-- The body of a frame at its innermost level. The end of a level closes one label, and an
+-- instruction opens at most one.
 abbrev innermost : Frame → Level → List Level → Body
 innermost f l ls = record { locals = f.locals; values = l.values; rest = []; gives = l.gives; takes = l.takes; back = l.back; outer = ls }
 

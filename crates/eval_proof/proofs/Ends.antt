@@ -1,4 +1,4 @@
--- A run of enough steps ends, with what its steps lead to and nothing else.
+-- A run of enough steps ends, in the one stage to which its steps lead.
 use Rattle.base_lists.proofs.Common.{◌≡◌, ℕ, zero, suc, ◌<◌, false, refl, arith}
 use Rattle.std.proofs.lemmas.Bool.{true≢false}
 use Rattle.wasm_tree_spec.specs.Prelude.{Module}
@@ -6,7 +6,7 @@ use Rattle.eval_spec.specs.Prelude.{Stage, Going, Stopped, Finished, is_going, q
 use Rattle.eval_proof.specs.Laws.{RunsEnd, EndsAreReached, QuietEndsAreUnique}
 use Rattle.eval_proof.proofs.Falls.{Less, falls}
 
--- what has ended stays
+-- A stage that is not going on stays so after any number of steps.
 still : (m : Module) (n : ℕ) (t : Stage) → is_going t ≡ false → is_going (after_steps m n t) ≡ false
 still m zero t e = e
 still m (suc n) (Stopped x left) e = e
@@ -36,7 +36,7 @@ leads m (suc n) (Finished s) = here
 pub ends_are_reached : EndsAreReached
 ends_are_reached m t = leads m (suc (weight t)) t
 
--- two ends of one run are one
+-- A run has only one end.
 one_end : {m : Module} {t u v : Stage} → ComesTo m t u → ComesTo m t v → is_going u ≡ false → is_going v ≡ false → u ≡ v
 one_end here here e f = refl
 one_end here (on q) e f = absurd (true≢false e)

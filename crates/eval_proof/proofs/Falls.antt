@@ -1,4 +1,5 @@
--- A quiet step that goes on leaves less weight: an instruction spends a turn and opens at most one frame or label, and where none begins one ends.
+-- A quiet step that goes on leaves less weight: an instruction spends a turn and opens at most one
+-- frame or label, and any other step ends a frame or label.
 use Rattle.base_lists.proofs.Common.{◌≡◌, ℕ, suc, ◌+◌, ◌-◌, ◌*◌, ◌<◌, length, List, [], ◌∷◌, Option, Some, None, Bool, true, false, cond, drop, refl, ap, arith, nat_eq, eqb-false}
 use Rattle.wasm_tree_spec.specs.Prelude.{Instr, out-Instr, Module}
 use Rattle.wasm_meaning.specs.Prelude.{Outcome, Gives, Traps, IllTyped, Level, Frame, Entry, Running, Mark, Opening, Waiting, Ended, Growing, Next, Ran, CallsOwn, WaitsGrowth, CallsPlaceholder, EndsCall, step}
@@ -8,7 +9,7 @@ use Rattle.eval_spec.specs.Prelude.{State, Stage, Going, Stopped, Finished, Test
 use Rattle.index_remap.specs.Prelude.{left_unknown}
 use Rattle.eval_proof.proofs.Depth.{DepthAtMost, end_depth, instr_depth}
 
--- it has ended, or its weight is less
+-- The stage is an end, or its weight is less than `w`.
 abbrev pub Less : ℕ → Stage → Type 0
 Less w (Going s es) = weight (Going s es) < w
 Less w (Stopped x left) = Unit {0}
@@ -21,7 +22,7 @@ stopped_less None u w p = p
 tried_less : (ts : List Test) (u : Stage) (w : ℕ) → Less w u → Less w (tried ts u)
 tried_less ts u w p = stopped_less (first_held ts) u w p
 
--- where the first test does not hold
+-- It suffices that the stage has less weight if the first test does not hold.
 first_less : (t : Test) (ts : List Test) (u : Stage) (w : ℕ) → (t.holds ≡ false → Less w u) → Less w (tried (t ∷ ts) u)
 first_less t ts u w p = by t.holds refl
   where
@@ -38,15 +39,15 @@ came_less s (Gives (WaitsGrowth g size count t fs)) n w p lt = tt
 came_less s (Gives (CallsPlaceholder slot vs t fs)) n w p lt = tt
 came_less s (Gives (EndsCall vs t fs)) n w p lt = tt
 
--- where no rule applies
+-- The step to which no rule applies stops the run.
 none_less : (s : State) (o : Outcome Next) (w : ℕ) → o ≡ IllTyped → Less w (came_to s o)
 none_less s o w e = rw e tt
 
--- where a level or a frame ends
+-- The end of a level or frame leaves less weight.
 end_less : (m : Module) (s : State) (es : List Entry) (n w : ℕ) → beginning es ≡ None → AllOf (DepthAtMost n) (step s.store es) → 2 * s.turns + n < w → Less w (quiet_step m s es)
 end_less m s es n w is all lt = tried_less (tests m s es) _ w (came_less (spent s es) _ n w all (rw is lt))
 
--- where an instruction begins: its first test is that of the one turn
+-- The first test before an instruction is that of its one turn.
 first_turn : (m : Module) (s : State) (es : List Entry) (b : Beginning) (u : Stage) (w : ℕ) → (nat_eq s.turns 0 ≡ false → Less w u) → Less w (stopped_or (first_held (tests_at m s es (Some b))) u)
 first_turn m s es b u w p = first_less (test (nat_eq s.turns 0) why.Steps s.turns) (drop 1 (tests_at m s es (Some b))) u w p
 

@@ -6,7 +6,7 @@ use Rattle.wasm_meaning.proofs.Outcomes.{AllOf, ill_typed, just, with_is, with_f
 use Rattle.eval_proof.specs.Known.{FramesOf, IsCodeOf, FuncsOf}
 
 module _ (i : Inst) (s : Store) (funcs : FuncsOf i s.funcs) where
-  -- the functions stay, and the frames are of the instance
+  -- The functions are unchanged, and the frames run code of the instance.
   abbrev NextOf : Next → Type 0
   NextOf (Ran t fs) = (t.funcs ≡ s.funcs) × FramesOf i fs
   NextOf _ = Unit {0}

@@ -19,7 +19,7 @@ module _ (m : Module) (of named : Space → ℕ → ℕ → Bool) (all : Relates
   Between (Stopped x left) y = y ≡ Stopped x left
   Between (Finished s) y = y ≡ Finished s
 
-  -- the step that ends it
+  -- The step that ends a quiet call.
   last_step : (s t : State) (es : List Entry) → quiet_step m s es ≡ Finished t → EndsAlike s es t
   last_step s t es e = λ funcs frames.
       let f = finishes_quietly m s es t e in

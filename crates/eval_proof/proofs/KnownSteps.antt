@@ -12,7 +12,7 @@ use Rattle.eval_proof.proofs.Operands.{address_at, Known, op_known}
 use Rattle.eval_proof.proofs.Frames.{step_keeps}
 use Rattle.eval_proof.proofs.Quiet.{neither, every_false, UsesKnownIn, UsesKnown, uses_known, reads_levels, goes_on_quietly}
 
--- each index is its own address
+-- Each index is its own address.
 own_address : (m : Module) (k : Space) (n a : ℕ) → address_at (own_inst m) k n ≡ Some a → a ≡ n
 own_address m Types n a e = absurd (let h = e in cc)
 own_address m Functions n a e = sym (numbers_is _ n a e).1
@@ -41,7 +41,7 @@ module _ (m : Module) (of named : Space → ℕ → ℕ → Bool) (all : Relates
   top_known s i j [] ks is n = tt
   top_known s i j (l ∷ ls) [] is n = tt
 
-  -- what is so of the entries whose step goes on
+  -- The next instruction of the top frame uses nothing unknown.
   abbrev pub TopUses : State → List Entry → Type 0
   TopUses s (Running f ∷ es) = UsesKnown m s f.inst f.levels
   TopUses s _ = Unit {0}

@@ -12,7 +12,7 @@ use Rattle.eval_spec.specs.Prelude.{with_segments, filled_from}
 use Rattle.eval_proof.specs.Machines.{InstantiatedAs, InstantiationsAreTheMachines}
 use Rattle.eval_proof.proofs.Quiet.{none_held}
 
--- what is left where nothing is trapped
+-- The result of copying segments of which none traps.
 abbrev untrapped : Store → Filled
 untrapped s = record { store = s; trapped = false }
 
@@ -20,7 +20,6 @@ abbrev store_at : Stage → Store → Store
 store_at (Finished s) other = s.store
 store_at _ other = other
 
--- where the stage is finished, no test held
 tried_finished : (ts : List Test) (u s : State) → stopped_or (first_held ts) (Finished u) ≡ Finished s → Every (λ t. t.holds ≡ false) ts × (u.store ≡ s.store)
 tried_finished ts u s e = by (first_held ts) refl e
   where
@@ -28,7 +27,6 @@ tried_finished ts u s e = by (first_held ts) refl e
     by (Some t) h e = absurd (let k = e in cc)
     by None h e = (none_held ts h, ap (λ t. store_at t u.store) e)
 
--- a filled store that is not trapped
 not_trapped : (f : Filled) (s : Store) → f.trapped ≡ false → f.store ≡ s → f ≡ untrapped s
 not_trapped f s e g = ap (λ b. record f { trapped = b }) e ∙ ap untrapped g
 
@@ -53,7 +51,7 @@ module _ (m : Module) where
       not_trapped (data_filled_by s task) t.store k.0.1.0 k.1
   data_same s t task data'.Passive is e = ap (run_data_with (value_in m) s.store task) is ∙ ap (λ x. untrapped (store_at x s.store)) e
 
-  -- one after the other
+  -- Segments in order: if each quiet copy that finishes is that of the machine, so are all.
   module _ {A : Type 0} (f : State → A → Stage) (g : Store → A → Filled) (same : (s t : State) (x : A) → f s x ≡ Finished t → g s.store x ≡ untrapped t.store) where
     began : (t : Stage) (xs : List A) (r : State) → in_order f t xs ≡ Finished r → (s : State) × (t ≡ Finished s)
     began (Finished s) xs r e = (s, refl)

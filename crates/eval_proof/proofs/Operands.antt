@@ -1,4 +1,4 @@
--- Where the operands of an instruction name related addresses, it names related addresses.
+-- An instruction whose operands name related addresses names related addresses.
 use Rattle.base_lists.proofs.Common.{◌≡◌, ℕ, Option, Some, None, refl, true, false, slice_get}
 use Rattle.base_lists.specs.Every.{Every}
 use Rattle.wasm_tree_spec.specs.Prelude.{Space, Types, Functions, Tables, Memories, Globals, ElementSegments, DataSegments, Operand, Instr, operands}
@@ -7,7 +7,7 @@ use Rattle.wasm_meaning.specs.Prelude.{Inst}
 use Rattle.index_remap.specs.Related
 use Rattle.index_remap.specs.Prelude.{Pairing, OptRel, none, some, ArgRel, OpRel}
 
--- the address of an index
+-- The address of an index of an index space; types have none.
 abbrev pub address_at : Inst → Space → ℕ → Option ℕ
 address_at i Types n = None
 address_at i Functions n = slice_get i.funcs n
@@ -18,7 +18,7 @@ address_at i ElementSegments n = slice_get i.elems n
 address_at i DataSegments n = slice_get i.datas n
 
 module _ (R : Pairing) (i j : Inst) where
-  -- what it has in the code relation is related
+  -- The addresses that the code relation gives an operand are related.
   abbrev pub Known : Operand → Type 0
   Known x = (a b : ℕ) → address_at i x.space x.index ≡ Some a → R.named x.space a b → R.of x.space a b
 

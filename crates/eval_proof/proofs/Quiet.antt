@@ -1,4 +1,4 @@
--- What is so where a quiet step goes on: no test held, and the machine made its step.
+-- A quiet step that goes on: no test before it holds, and the machine makes the same step.
 use Rattle.base_lists.proofs.Common.{◌≡◌, ℕ, ◌+◌, ◌<◌, ◌≤◌, List, [], ◌∷◌, Option, Some, None, Bool, true, false, cond, ◌&&◌, ◌||◌, refl, sym, ap, subst, arith, ◌∙◌, nat_eq, nat_le, nat_lt, list_any, eqb-true, le-leb, lt-ltb}
 use Rattle.std.proofs.lemmas.Bool.{true≢false}
 use Rattle.base_lists.specs.Every.{Every}
@@ -19,9 +19,9 @@ pub every_false : {A : Type 0} (is : A → Bool) (xs : List A) → list_any is x
 every_false is [] e = tt
 every_false is (x ∷ xs) e = let n = neither (is x) (list_any is xs) e in (n.0, every_false is xs n.1)
 
--- ---- what is read is known ----
+-- ---- the places that are read are known ----
 
--- a place of a row in which none is unknown
+-- A place of a row in which no place is unknown is known.
 place_known : (x : ℕ × ℕ) (a place count n : ℕ) → nat_eq x.0 a && (nat_le place x.1 && nat_lt x.1 (place + count)) ≡ false → place ≤ n → n < place + count → nat_eq x.0 a && nat_eq x.1 n ≡ false
 place_known x a place count n e l h = by (nat_eq x.0 a) (nat_eq x.1 n) refl e
   where
@@ -49,7 +49,7 @@ is_known u (ReadsItems a place count) e = λ n l h. row_known u.items a place co
 reads_known : (u : Unknowns) (o : Outcome ReadPlace) → reads_unknown u o ≡ false → ReadsKnown u o
 reads_known u o e r is = is_known u r (subst (λ x. reads_unknown u x ≡ false) is e)
 
--- ---- no test held ----
+-- ---- no test holds ----
 
 pub none_held : (ts : List Test) → first_held ts ≡ None → Every (λ t. t.holds ≡ false) ts
 none_held [] e = tt
@@ -59,7 +59,7 @@ none_held (t ∷ ts) e = by t.holds refl e (none_held ts)
     by true h e more = absurd (let k = e in cc)
     by false h e more = (h, more e)
 
--- where an instruction begins it uses nothing that is unknown
+-- The instruction that begins, if one does, uses nothing that is unknown.
 abbrev pub UsesKnownIn : Module → State → Inst → List Val → List Instr → Type 0
 UsesKnownIn m s inst vs [] = Unit {0}
 UsesKnownIn m s inst vs (o ∷ rest) = uses_unknown m s.unknown (out-Instr o) (record { store = s.store; inst = inst }) vs ≡ false
@@ -84,7 +84,7 @@ pub reads_levels : (m : Module) (s : State) (inst : Inst) (ls : List Level) → 
 reads_levels m s inst [] n = reads_known s.unknown IllTyped refl
 reads_levels m s inst (l ∷ ls) n = reads_in m s inst l.values l.code n
 
--- ---- the machine made its step ----
+-- ---- a step that goes on ----
 
 abbrev next_of : Stage → Outcome Next
 next_of (Going s es) = Gives (Ran s.store es)
@@ -116,7 +116,7 @@ goes_on_quietly m s es t fs e = by (first_held (tests m s es)) refl e
     by (Some x) h e = absurd (let k = e in cc)
     by None h e = let r = ran (spent s es) (step s.store es) t fs e in record { none_held = h; steps = r.0; unknown = r.1 }
 
--- ---- the machine ended the call ----
+-- ---- a step that ends the call ----
 
 pub record FinishesQuietly (m : Module) (s : State) (es : List Entry) (t : State) : Type 0 where
   pub values : List Val

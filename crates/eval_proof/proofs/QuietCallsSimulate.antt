@@ -1,4 +1,5 @@
--- A quiet call leads the same call over a related store, and leaves the rest of it alone.
+-- A quiet call corresponds to the same call over a related store, which leaves the unrelated parts
+-- of that store unchanged.
 use Rattle.base_lists.proofs.Common.{None, ◌≡◌, ◌∙◌, ℕ, suc, List, [], ◌∷◌, Bool, true, false, cond, not, arith, ◌||◌, refl, sym, subst, nat_eq, filter}
 use Rattle.base_lists.specs.Members.{is_among}
 use Rattle.wasm_tree_spec.specs.Prelude.{Space, Module}
@@ -16,7 +17,7 @@ use Rattle.eval_proof.proofs.KnownSteps as steps
 use Rattle.wasm_meaning.proofs.Outcomes.{all_at}
 use Rattle.eval_proof.proofs.Alone.{alone_at}
 
--- ---- what is unknown after a step was so before ----
+-- ---- what is unknown after a step was unknown before it ----
 
 was_among : (keeps : ℕ → Bool) (xs : List ℕ) (a : ℕ) → is_among (filter keeps xs) a ≡ true → is_among xs a ≡ true
 was_among keeps [] a e = e
@@ -88,7 +89,8 @@ module _ (R : Pairing) where
       go : (p : Outcome Next) → step x fs ≡ p → ResRel (NextOff R v (Above R [] [])) (Gives (EndsCall vs s gs)) p → Last_led v s x fs
       go _ i (done (returned values h a)) = record { values = _; after = _; rest = _; ends = i; related = h }
 
--- two in a row, where what is unknown after both was so between them
+-- Two steps in a row leave unrelated places alone, if what is unknown after both was unknown
+-- between them.
 both_alone : (R : Pairing) (u v : Unknowns) (x y z : Store) → ((a : ℕ) → is_among v.globals a ≡ true → is_among u.globals a ≡ true) → LeavesAlone R u x y → LeavesAlone R v y z → LeavesAlone R v x z
 both_alone R u v x y z was p q = record {
   funcs = q.funcs ∙ p.funcs;
@@ -105,7 +107,8 @@ module _ (m : Module) (of named : Space → ℕ → ℕ → Bool) (all : Relates
   abbrev R : Pairing
   R = passed of named []
 
-  -- the call from here, and what is unknown at its end
+  -- The rest of a call over the other store, and that what is unknown at its end was unknown
+  -- before.
   record Call_led (s : State) (t : State) (x : Store) (fs : List Entry) : Type 0 where
     led : IsLed R t x fs
     was : (a : ℕ) → is_among t.unknown.globals a ≡ true → is_among s.unknown.globals a ≡ true
@@ -119,7 +122,7 @@ module _ (m : Module) (of named : Space → ℕ → ℕ → Bool) (all : Relates
   Between (Stopped x left) y = y ≡ Stopped x left
   Between (Finished s) y = y ≡ Finished s
 
-  -- one step of both
+  -- One step over both stores gives related results.
   agrees : (s : State) (es : List Entry) → first_held (tests m s es) ≡ None → FramesOf (own_inst m) es → (x : Store) (fs : List Entry) → StoreRelOff R s.unknown s.store x → ListRel (EntryRel R) es fs →
       ResRel (NextOff R (left_unknown s.unknown s.store es) (Above R [] [])) (step s.store es) (step x fs)
   agrees s es none frames x fs related stack =

@@ -1,4 +1,5 @@
--- For each module there is a relation of addresses as the laws ask for: each with itself, but for imported tables, memories and globals.
+-- A relation of addresses as the laws ask for exists for each module: it relates each address to
+-- itself, except for imported tables, memories and globals.
 use Rattle.base_lists.proofs.Common.{◌≡◌, ◌∙◌, ℕ, [], Bool, true, false, not, ◌&&◌, refl, sym, nat_eq, IsTrue, eqb-true, left_true}
 use Rattle.std.proofs.lemmas.Bool.{true≢false}
 use Rattle.wasm_tree_spec.specs.Prelude.{Space, Functions, Module, same_space}

@@ -89,7 +89,8 @@ module _ (m : Module) (agree : StepsAgree) (known : NamedAreKnown) where
       after_held (suc (weight (host_call s func))) (host_call s func)
       (opened_held s func h (slice_get s.store.funcs func) (slice_get s.store.funcs func) (h.funcs {a = func} {b = func} (to_itself m Functions func lt) (λ p. absurd (let k = p in cc))) refl)
 
-  -- an index without a function stops it, where there are no more functions than the module has
+  -- A call of any index leaves the store related to itself, if the store has no more functions than
+  -- the module; an index without a function stops the call.
   any_held : (s : State) (func : ℕ) → StoreRel (R m) s.store s.store → length s.store.funcs ≤ length (funcs_of m) → Held (call_end m s func)
   any_held s func h few = by (slice_get s.store.funcs func) refl
     where
@@ -115,7 +116,8 @@ module _ (m : Module) (agree : StepsAgree) (known : NamedAreKnown) where
     started_held s (Some func) h g = any_held s func h (few_in s g)
     started_held s None h g = h
 
--- where globals have their types, there are no others
+-- A store that is related to itself, and whose globals have their types, has globals that refer
+-- only to functions of the module.
 refs_there : (m : Module) (s : Store) → StoreRel (R m) s s → GlobalsAreTyped m s → RefsAreThere m s
 refs_there m s h typed = λ n g at. global_there m s h n g (slice_get_within (globals_of m) n g.ty (typed n g at).1) at
 
@@ -133,7 +135,7 @@ references_there agree known coded writes items m v turns funcs s e = refs_there
     held (Stopped x left) i is = from (Stopped x left) (called_held m agree known writes [] (omega arith) funcs (Stopped x left) tt tt) is
     held (Going u es) i is = elim i [ ]
 
--- ---- from a state like an instantiation's ----
+-- ---- a call from a state that has the parts of the one after the instantiation ----
 
 module _ (m : Module) where
   globals_itself : (gs : List Global) → ((n : ℕ) (g : Global) → slice_get gs n ≡ Some g → IsThere m g.value) → ListRel (GlobalRel (R m)) gs gs

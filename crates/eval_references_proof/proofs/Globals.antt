@@ -14,7 +14,7 @@ use Rattle.index_remap.specs.Prelude.{CodeIsRelatedToItself}
 use Rattle.eval_references_proof.proofs.Stored.{Stored, instantiated_stored}
 use Rattle.eval_references_proof.specs.References.{CallsKeepTypes, EvaluatedGlobalsAreTyped, GlobalsAreTyped}
 
--- ---- what sets a global ----
+-- ---- acts that set a global ----
 
 abbrev SetsTyped : Act → Type 0
 SetsTyped (Goes (SetGlobal a g) h) = same_type g.ty.ty (type_of g.value) ≡ true
@@ -55,7 +55,7 @@ module _ (env : Env) (h : Body) (a : ℕ) where
 
 -- ---- a step ----
 
--- globals have their types, and functions are these
+-- The globals of the store have their types, and its functions are `fs`.
 abbrev pub Good : Module → List Func → Store → Type 0
 Good m fs s = GlobalsAreTyped m s × (s.funcs ≡ fs)
 
@@ -73,7 +73,8 @@ module _ (m : Module) (writes : StepsWriteWhatTheyTouch) (fs : List Func) (s : S
   levels_set env locals a x [] e t = absurd (let k = t in cc)
   levels_set env locals a x (l ∷ ls) e t = code_sets env (record { locals = locals; values = l.values; rest = []; gives = l.gives; takes = l.takes; back = l.back; outer = ls }) a x l.code e t
 
-  -- what is told of a write to a global
+  -- A touched place that is the one global at this address, which is there with the same type
+  -- before.
   record SetsOne (a : ℕ) (g : Global) (told : Touched) : Type 0 where
     is : told ≡ OneGlobal a
     old : Global

@@ -9,7 +9,7 @@ use Rattle.eval_references_proof.specs.Imports.{ImportsAreTyped}
 use Rattle.eval_references_proof.specs.Imports.{ImportsTyped}
 
 module _ (m : Module) where
-  -- of each imported function there is one
+  -- The store of the imports has one function for each import of a function.
   many_type : (i : Import) (is : List Import) (ty : ℕ) → func_of i.desc ≡ Some ty → ty < length m.types → length (filter_map (imported_func m) is) ≡ length (imported_funcs is) → (o : Option FuncType) → slice_get m.types ty ≡ o →
       length (filter_map (imported_func m) (i ∷ is)) ≡ length (imported_funcs (i ∷ is))
   many_type i is ty e lt rest None f = absurd (omega (arith, lt, none_past m.types ty (sym f)))

@@ -1,4 +1,4 @@
--- A store that is related to itself where each address is that of an index of the module.
+-- A store that is related to itself by the relation of each index of the module with itself.
 use Rattle.base_lists.proofs.Common.{◌≡◌, ◌∙◌, ℕ, ◌<◌, ◌≤◌, arith, List, [], length, Bool, true, ◌&&◌, Option, Some, None, slice_get, refl, sym, ap, subst, IsTrue, nat_eq, nat_lt, and_parts, eq-eqb, eqb-true, lt-ltb, ltb-true, same_Some, numbers_is, slice_get_there, both_in}
 use Rattle.wasm_tree_spec.specs.Prelude.{Space, Types, Functions, Tables, Memories, Globals, ElementSegments, DataSegments, RefType, ValType, FuncType, Module, funcs_of, tables_of, memories_of, globals_of}
 use Rattle.wasm_tree.specs.declared.types.RefType.TheVariants as reft
@@ -8,7 +8,7 @@ use Rattle.index_remap.specs.Prelude.{Pairing, OneToOneWhereWritten, none, some,
 use Rattle.eval_spec.specs.Prelude.{own_inst}
 use Rattle.eval_references_proof.specs.References.{IsThere}
 
--- how many indices a space has
+-- The number of indices of an index space; types have no addresses.
 abbrev pub count_in : Module → Space → ℕ
 count_in m Types = 0
 count_in m Functions = length (funcs_of m)
@@ -18,7 +18,7 @@ count_in m Globals = length (globals_of m)
 count_in m ElementSegments = length m.elems
 count_in m DataSegments = length m.datas
 
--- each is related to itself
+-- The relation of each index of the module with itself.
 abbrev pub itself : Module → Space → ℕ → ℕ → Bool
 itself m k a b = nat_eq a b && nat_lt a (count_in m k)
 
@@ -71,7 +71,7 @@ module _ (m : Module) where
   value_there _ _ number = tt
   value_there _ _ (reference {r} {s} h) = ref_there r s h
 
-  -- and such a value is related to itself
+  -- A value that refers to no function but those of the module is related to itself.
   pub value_itself : (v : Val) → IsThere m v → ValRel (R m) v v
   value_itself (Num w n) h = number
   value_itself (Ref (FuncRef None)) h = reference (func none)
@@ -95,7 +95,7 @@ module _ (m : Module) where
     pub many_datas : count_in m DataSegments ≤ length s.datas
     pub few_funcs : length s.funcs ≤ count_in m Functions
 
-  -- what is at an address that is related
+  -- Related addresses have related entries, in a list that is related to itself.
   entry : {A : Type 0} (P : A → A → Type 0) (k : Space) (xs : List A) → ListRel P xs xs → count_in m k ≤ length xs → (a b : ℕ) → IsTrue (itself m k a b) → BothRel P (slice_get xs a) (slice_get xs b)
   entry P k xs r le a b h =
       let lt : a < length xs = let w = within k a b h in omega (arith, le, w) in
@@ -117,7 +117,8 @@ module _ (m : Module) where
     datas = λ {a} {b} h. entry (λ x y. x.bytes ≡ y.bytes) DataSegments s.datas i.datas i.many_datas a b h;
   }
 
-  -- and a global of the module has a value that is there
+  -- A global of the module, in a store that is related to itself, refers to no function but those
+  -- of the module.
   pub global_there : (s : Store) → StoreRel (R m) s s → (n : ℕ) (g : Global) → n < count_in m Globals → slice_get s.globals n ≡ Some g → IsThere m g.value
   global_there s h n g lt e = by (slice_get s.globals n) (slice_get s.globals n) (h.globals {a = n} {b = n} (to_itself Globals n lt)) e
     where

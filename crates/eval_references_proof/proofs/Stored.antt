@@ -21,12 +21,13 @@ use Rattle.eval_references_proof.proofs.Itself.{IsStored, R, count_in, itself, n
 
 -- ---- lists that are related to themselves ----
 
--- what may be there is related to itself, if it is
+-- An optional element is related to itself if the element is.
 if_there : {A : Type 0} (P : A → A → Type 0) (o : Option A) → ((x : A) → o ≡ Some x → P x x) → OptRel P o o
 if_there P None h = none
 if_there P (Some x) h = some (h x refl)
 
--- and so are all that are made of the elements of a list
+-- The results that a function gives for all elements of a list are related to themselves if each of
+-- them is.
 from_all : {A B : Type 0} {P : B → B → Type 0} (f : A → Option B) (xs : List A) → ((x : A) (y : B) → f x ≡ Some y → P y y) → (ys : List B) → all_there f xs ≡ Some ys → ListRel P ys ys
 from_all {P = P} f xs h ys e = opt_self (all_rel (self_rel xs (λ x. if_there P (f x) (h x)))) e
 
@@ -38,12 +39,12 @@ from_some {A} {B} {P} f (x ∷ xs) h = by (f x) (h x) (from_some f xs h)
     by None k r = r
     by (Some y) k r = cons (k y refl) r
 
--- a value that comes of several look-ups
+-- The result of two look-ups in a row has a property if it has it for any result of the first.
 then_holds : {A B : Type 0} (P : B → Type 0) (o : Option A) (f : A → Option B) → ((a : A) → o ≡ Some a → (b : B) → f a ≡ Some b → P b) → (b : B) → (o >>= f) ≡ Some b → P b
 then_holds P None f h b e = absurd (let k = e in cc)
 then_holds P (Some a) f h b e = h a refl b e
 
--- related to itself, and with globals of their types
+-- The store is related to itself, and its globals have their types.
 abbrev pub IsMade : Module → Store → Type 0
 IsMade m s = IsStored m s × GlobalsAreTyped m s
 
@@ -66,7 +67,7 @@ module _ (m : Module) (coded : CodeIsRelatedToItself) where
       subst (λ w. ValRel (R m) w w) (same_Some _ u q) (opt_self {P = λ g h. ValRel (R m) g.value h.value} (get_rel
       (maps_rel (λ (t : GlobalType). record { ty = t; value = zero_of t.ty }) (λ (t : GlobalType). record { ty = t; value = zero_of t.ty }) (self_rel (imported_globals m.imports) (λ t. zero_itself m t.ty))) a) j)) w g) v e
 
-  -- ---- what a module defines ----
+  -- ---- the parts that a module defines ----
 
   code_itself : (f : FuncDef) (y : Func) → new_func (own_inst m) f ≡ Some y → FuncRel (R m) y y
   code_itself f y e = then_holds (λ w. FuncRel (R m) w w) (slice_get m.types f.ty) _ (λ t i w g. subst (λ w. FuncRel (R m) w w) (same_Some _ w g) (defined (coded (itself m) (itself m) [] (own_inst m) f.body (names_itself m)))) y e
@@ -93,7 +94,7 @@ module _ (m : Module) (coded : CodeIsRelatedToItself) where
   elem_itself x y e = then_holds (λ w. ElemRel (R m) w w) (all_there (λ x. value_in m x >>= ref_of) x.items) _ (λ items i w q.
       subst (λ w. ElemRel (R m) w w) (same_Some _ w q) (mode_itself x.mode items (from_all (λ x. value_in m x >>= ref_of) x.items item_itself items i))) y e
 
-  -- ---- at first ----
+  -- ---- the store before any segment is copied ----
 
   module _ (v : ItemsHold m) (fs : List Func) (gs : List Global) (es : List Elem) (ef : all_there (new_func (own_inst m)) m.funcs ≡ Some fs) (eg : all_there (global_with (value_in m)) m.globals ≡ Some gs) (ee : all_there (elem_with (value_in m)) m.elems ≡ Some es) where
     abbrev first : Store

@@ -24,7 +24,6 @@ zero_fits (valt.Ref reft.Extern) = refl
 abbrev zero_global : GlobalType → Global
 zero_global t = record { ty = t; value = zero_of t.ty }
 
--- a type that is there where a test holds
 only_type : (b : Bool) (s t : ValType) → only b (Some s) ≡ Some t → (b ≡ true) × (s ≡ t)
 only_type true s t e = (refl, same_Some s t e)
 only_type false s t e = absurd (let k = e in cc)

@@ -1,4 +1,5 @@
--- The first counts of a module tell those of the module with its references declared, or that a u32 can count its functions.
+-- The first counts of a module determine those of the module with its references declared, or tell
+-- that a u32 can count its functions.
 use Rattle.base_lists.proofs.Common.{◌≡◌, ◌∙◌, ap, sym, refl, ℕ, ◌<◌, ◌≤◌, Bool, true, false, cond, List, [], ◌∷◌, map, length, Option, Some, None, arith, nat_lt, length-append, length-map, filter_map_most}
 use Rattle.wasm_tree_spec.specs.Prelude.{Which, Module, limit, func_of, funcs_of, imported_funcs}
 use Rattle.wasm_tree.specs.declared.which.Which.TheVariants as which

@@ -1,4 +1,5 @@
--- What is found of an export's name tells what becomes of it.
+-- The result of looking up an export's name among the evaluated constructors tells whether the
+-- export is kept and what it denotes.
 use Rattle.base_lists.proofs.Common.{◌≡◌, ◌∙◌, ap, sym, refl, ℕ, ◌+◌, ◌<◌, List, [], ◌∷◌, map, length, drop, get_or, is_some, Result, Ok, Err, IfOk, Bool, true, false, not, ◌&&◌, ◌||◌, cond, Some, None, cons_option, list_any, drop_more}
 use Rattle.std.proofs.Common.{filter_map}
 use Rattle.base_kept.specs.Kept.{kept as keeping}
@@ -37,7 +38,7 @@ module _ (a k : Bool) (e : Export) (empty : ℕ) where
       by true h = cc
       by false h = cc
 
-  -- it is kept exactly where that is found
+  -- The export of an evaluated constructor is kept exactly if the look-up says so.
   pub some_kept : (b : Bool) → Some b ≡ cond a (Some k) None → b ≡ a && k
   some_kept b h = by a h
     where
@@ -52,7 +53,7 @@ module _ (a k : Bool) (e : Export) (empty : ℕ) where
       by true h = cc
       by false h = refl
 
--- of all exports, each with what it denotes, those that stay
+-- The exports of the snapshot are those that stay, each with what it then denotes.
 pub exports_left_are : (evaluated kept : List Text) (empty : ℕ) (es : List Export) → keeping (map (stays evaluated kept) es) (map (redirected evaluated empty) es) ≡ filter_map (export_left evaluated kept empty) es
 exports_left_are evaluated kept empty [] = refl
 exports_left_are evaluated kept empty (e ∷ es) =

@@ -1,4 +1,4 @@
--- Names that are looked up: one name more.
+-- Names that are looked up: the step from the first names to one more.
 use Rattle.base_lists.proofs.Common.{◌≡◌, ◌∙◌, ap, sym, refl, ℕ, ◌+◌, ◌<◌, List, [], ◌∷◌, ◌++◌, take, length, get_or, Bool, true, false, ◌||◌, cond, Option, Some, None, list_any, bytes_eq, take_more, list_any-append, bytes_eq-Decides, same_tests}
 use Rattle.base_lists.proofs.Same.{text_is, text_self}
 use Rattle.wasm_meaning.specs.Prelude.{Text, same_text}
@@ -7,7 +7,7 @@ use Rattle.eval_snapshot_spec.specs.Snapshot.{is_among_names}
 same_bytes : (q x : Text) → same_text q x ≡ bytes_eq x q
 same_bytes q x = same_tests (same_text q x) (bytes_eq x q) (λ h. (bytes_eq-Decides x q).1 (sym (text_is q x h))) (λ h. ap (same_text q) ((bytes_eq-Decides x q).0 h) ∙ text_self q)
 
--- a name is among those before the next one, or it is this one
+-- A name is among the first `i + 1` names if it is among the first `i` or is the next one.
 among_more : (names : List Text) (i : ℕ) (x q : Text) → i < length names → x ≡ get_or names i x → is_among_names (take (i + 1) names) q ≡ (is_among_names (take i names) q || bytes_eq x q)
 among_more names i x q lt is =
     ap (list_any (same_text q)) (take_more names i x lt ∙ ap (λ y. take i names ++ y ∷ []) (sym is))
@@ -17,7 +17,7 @@ among_more names i x q lt is =
     last true = refl
     last false = refl
 
--- what is found of a name once this one is there
+-- The result of looking up a name after the next one is added.
 pub found_more : (names : List Text) (value : Text → Bool) (i : ℕ) (x q : Text) (v : Bool) (before now : Option Bool) → i < length names → x ≡ get_or names i x → v ≡ value x → before ≡ cond (is_among_names (take i names) q) (Some (value q)) None →
     now ≡ cond (bytes_eq x q) (Some v) before → now ≡ cond (is_among_names (take (i + 1) names) q) (Some (value q)) None
 found_more names value i x q v before now lt is w b n =

@@ -55,7 +55,7 @@ module _ (bytes : List ℕ) where
 
   -- ---- where a segment ends ----
 
-  -- the segment goes on to the next byte that is not zero
+  -- The stretch continues to the next byte that is not zero if that byte is at most 256 places on.
   pub goes_on : (first last next : ℕ) → IsNextNonzero bytes (last + 1) next → next - last ≤ 256 → stretches_from first last (nonzero_from bytes (last + 1)) ≡ stretches_from first next (nonzero_from bytes (next + 1))
   goes_on first last next h le =
       let behind = h.behind in
@@ -75,7 +75,7 @@ module _ (bytes : List ℕ) where
 
 -- ---- bytes and segments ----
 
--- one byte more of a part
+-- A part of the bytes with the next byte appended is the part that is one longer.
 pub part_more : (bytes xs : List ℕ) (first at value : ℕ) → first + at < length bytes → xs ≡ part bytes first at → value ≡ little (part bytes (first + at) 1) → xs ++ value ∷ [] ≡ part bytes first (at + 1)
 part_more bytes xs first at value lt e v =
     let dropped = length-drop first bytes in
@@ -84,7 +84,8 @@ part_more bytes xs first at value lt e v =
     v ∙ (ap (λ ys. little (take 1 ys)) (drop_more bytes (first + at) 0 lt) ∙ ((let z : get_or bytes (first + at) 0 + 256 * 0 ≡ get_or bytes (first + at) 0 = omega arith in z) ∙ sym (get_or-drop first bytes at 0))) in
     ap₂ (λ ys b. ys ++ b ∷ []) e here ∙ sym (take_more (drop first bytes) at 0 within)
 
--- one segment more of a memory's contents
+-- The segments that are made so far with the next one appended, and the remaining ones, are all
+-- segments of the memory's contents.
 pub contents_more : (f : Stretch → DataSeg) (bytes : List ℕ) (segments new all : List DataSeg) (d : DataSeg) (from first last : ℕ) → IsNextNonzero bytes from first → IsStretch bytes first last → d ≡ f (record { first = first; last = last }) → new ≡ segments ++ d ∷ [] →
     segments ++ map f (stretches_over (nonzero_from bytes from)) ≡ all → new ++ map f (stretches_over (nonzero_from bytes (last + 1))) ≡ all
 contents_more f bytes segments new all d from first last h s e g k =

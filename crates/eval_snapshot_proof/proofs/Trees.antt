@@ -1,4 +1,5 @@
--- Each item of a snapshot holds, but for references.
+-- Each item of a snapshot fulfils the conditions of validity, except that its references may be
+-- undeclared.
 use Rattle.base_lists.proofs.Common.{◌≡◌, ◌∙◌, ap, ap₂, sym, subst, refl, ℕ, zero, suc, ◌+◌, ◌<◌, ◌≤◌, List, [], ◌∷◌, ◌++◌, map, length, take, replicate, Option, Some, None, Bool, true, false, not, ◌&&◌, ◌||◌, cond, slice_get, ⊎_elim, ◌⊎◌, inl, inr, true≢false, arith, append_assoc, Contains, nat_eq}
 use Rattle.base_lists.proofs.Common.{nat_lt, nat_le, list_any, cons_option, lt-ltb, ltb-true, length-append, map-append, any_passes_from_place, slice_get_within, first_at, append_from, map_from, replicate_at, slice_get_there, only_true}
 use Rattle.std.proofs.Common.{filter_map}
@@ -30,7 +31,7 @@ use Rattle.eval_snapshot_proof.proofs.Typed.{typed_wider}
 
 -- ---- lists ----
 
--- a place that is kept passes the test by which it is marked
+-- An item that is marked by a test passes the test.
 marked_test : {A : Type 0} (test : A → Bool) (xs : List A) (n : ℕ) (x : A) → slice_get xs n ≡ Some x → is_marked (map test xs) n ≡ true → test x ≡ true
 marked_test test [] n x e h = cc
 marked_test test (y ∷ ys) zero x e h = let same : y ≡ x = cc in ap test (sym same) ∙ h
@@ -69,14 +70,14 @@ segments_many s n (d ∷ ds) = ap suc (segments_many s (suc n) ds)
 -- ---- exports ----
 
 module _ (evaluated kept : List Text) (empty : ℕ) where
-  -- the export stays, as it is or with the empty function
+  -- The export is kept, either as it is or with the empty function.
   abbrev pub stays : Export → Bool
   stays e = not (is_among_names evaluated e.name) || is_among_names kept e.name
 
   abbrev pub pointed : Export → Export
   pointed e = cond (is_among_names evaluated e.name) (record e { desc = ex.Func empty }) e
 
-  -- those that stay, in order
+  -- The exports of the snapshot are those that stay, in order.
   pub exports_are : (es : List Export) → filter_map (export_left evaluated kept empty) es ≡ map pointed (keeping (map stays es) es)
   exports_are [] = refl
   exports_are (e ∷ es) = one (is_among_names evaluated e.name) (is_among_names kept e.name) refl refl (exports_are es)
@@ -127,14 +128,14 @@ module _ (laws : CodeLaws) (m : Module) (s : State) (evaluated kept : List Text)
 
   -- ---- functions ----
 
-  -- the function type of the added function
+  -- The type of the added function is there, and it has no parameters and no results.
   pub added_type : (t : FuncType) × (slice_get m.types (empty_type m) ≡ Some t) × (takes_and_gives_nothing t ≡ true)
   added_type =
       let r = first_at takes_and_gives_nothing m.types 0 has_empty.0 has_empty.1 has_empty.2 has_empty.3 in
       let place : 0 + r.at ≡ r.at = omega arith in
       (r.item, ap (λ o. slice_get m.types (unwrap_or o 0)) r.is ∙ (ap (slice_get m.types) place ∙ r.got), r.yes)
 
-  -- a function of the snapshot is one of the module, or the added one
+  -- A function of the snapshot is either one of the module or the added one.
   pub func_from : (j : ℕ) (f : Func) → slice_get u.funcs j ≡ Some f → (slice_get m.funcs j ≡ Some f) ⊎ (f ≡ empty_func m)
   func_from j f e = ⊎_elim inl (λ p. inr (by (list_any (λ e. is_kept evaluated kept e.name) m.exports) p.0 f p.2)) (append_from m.funcs added j f e)
     where
@@ -186,7 +187,7 @@ module _ (laws : CodeLaws) (m : Module) (s : State) (evaluated kept : List Text)
   abbrev marks : List Bool
   marks = map (stays evaluated kept (length (funcs_of m))) m.exports
 
-  -- where an export stays that is an evaluated constructor's, the function for it is there
+  -- The empty function is there if an export of an evaluated constructor is kept.
   empty_there : (n : ℕ) (e : Export) → slice_get m.exports n ≡ Some e → is_kept evaluated kept e.name ≡ true → length (funcs_of m) < length (funcs_of u)
   empty_there n e at h =
       let is : added ≡ empty_func m ∷ [] = ap (λ b. cond b (empty_func m ∷ []) []) (any_passes_from_place (λ e. is_kept evaluated kept e.name) m.exports n e at h) in

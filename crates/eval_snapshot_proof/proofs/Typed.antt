@@ -1,4 +1,5 @@
--- Code that stays well typed where there are more functions, others may be named, and there are other data segments, as many as before if it names one.
+-- Code stays well typed in a module with more functions, other declared functions and other data
+-- segments, of which there are as many as before if the code names one.
 use Rattle.base_lists.proofs.Common.{◌≡◌, ◌∙◌, ap, refl, ℕ, Bool, true, false, not, ◌&&◌, ◌||◌, List, [], ◌∷◌, ◌++◌, Some, slice_get, arith, nat_lt, nat_le, list_all, list_any, append_at_left, and_from, left_either, right_either, keeps_only, keeps_then, and_then_is, only_true, Option, None}
 use Rattle.base_lists.specs.Every.{Every}
 use Rattle.wasm_tree_spec.specs.Prelude.{Operand, ValType, FuncType, Instr, Row_of-Instr, end_of-Instr, more_of-Instr, Block', Loop', If', Call, RefFunc, MemoryInit, DataDrop, names_data, uses_data, uses_data_in, Layers, RowLayers, ListLayers, all_operands_pass, held, operands, operands_of}
@@ -54,7 +55,7 @@ left_keeps : (a b r : Bool) → (a ≡ true → b ≡ true) → a && r ≡ true 
 left_keeps true b r k h = ap (λ z. z && r) (k refl) ∙ h
 left_keeps false b r k h = cc
 
--- a call of a function whose type is still there has the effect that it had
+-- A call has the same effect as before if the type of its function is still there.
 call_keeps : (o p : Option FuncType) (e : Effect) → Keeps o p → gives_of (signature_in o) ≡ Some e → gives_of (signature_in p) ≡ Some e
 call_keeps None p e k h = cc
 call_keeps (Some t) p e k h = ap (λ q. gives_of (signature_in q)) (k t refl) ∙ h

@@ -1,4 +1,4 @@
--- A snapshot is valid, a u32 can count what it has, and it has no memory more.
+-- A snapshot is valid and bounded, and it has no additional memory.
 use Rattle.base_lists.proofs.Common.{◌≡◌, sym, subst, refl, ℕ, ◌+◌, ◌^◌, ◌<◌, ◌≤◌, List, [], ◌∷◌, length, map, Some, None, true, slice_get, arith, ⊎_elim, length-append, length-map, filter_map_most}
 use Rattle.wasm_tree_spec.specs.Prelude.{FuncType, Func, Module, IsBounded, local_count, param_count, func_of, funcs_of, imported_funcs}
 use Rattle.wasm_valid.specs.Prelude.{IsSingle, IsValid, ItemsHold, ValidWhereItemsHold}
@@ -12,7 +12,7 @@ use Rattle.eval_snapshot_proof.specs.Left.{CodeLaws}
 use Rattle.eval_snapshot_proof.specs.Suits.{HasEmptyType, HasEmptyTypeFor, Suits}
 use Rattle.eval_snapshot_proof.proofs.Trees.{added_type, func_from, globals_are, items_hold}
 
--- what the laws below say
+-- The laws of other crates that the lemmas below use.
 pub record Laws : Type 0 where
   pub code : CodeLaws
   pub items : ValidWhereItemsHold
@@ -23,7 +23,7 @@ pub record Laws : Type 0 where
 
 -- ---- declaring adds an element segment, at most ----
 
--- what is counted of a tree beside one in which these functions are declared
+-- The counts of a module compared with those of the module with declared functions.
 record Beside (t d : Module) : Type 0 where
   imports : length d.imports ≡ length t.imports
   funcs : length d.funcs ≡ length t.funcs
@@ -45,7 +45,8 @@ module _ (laws : Laws) (m : Module) (s : State) (evaluated kept : List Text) (va
   unfolding declared_snapshot
   snapshot_valid = laws.valid u (items_hold laws.code m s evaluated kept holds suits has_empty)
 
-  -- the parameters and locals of a function, which are those of one of the module or none
+  -- The parameters and locals of a function of the snapshot are those of a function of the module,
+  -- or it has none.
   locals_few : IsBounded m → (j : ℕ) (f : Func) → slice_get u.funcs j ≡ Some f → local_count m.types f < 2 ^ 32
   locals_few few j f at = ⊎_elim (λ h. few.locals j f h) (λ h. subst (λ g. local_count m.types g < 2 ^ 32) (sym h) none) (func_from laws.code m s evaluated kept holds suits has_empty j f at)
     where

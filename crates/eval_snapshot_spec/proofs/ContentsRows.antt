@@ -17,27 +17,28 @@ one_byte : contents 0 (zeros 1024 ++ 42 ∷ zeros 64511) ≡ at 1024 (42 ∷ [])
 unfolding signed
 one_byte = refl
 
--- zeros at both ends are left out
+-- Zeros at both ends are left out.
 ends_are_left_out : contents 0 (0 ∷ 1 ∷ 0 ∷ 2 ∷ 0 ∷ []) ≡ at 1 (1 ∷ 0 ∷ 2 ∷ []) ∷ []
 unfolding signed
 ends_are_left_out = refl
 
--- the first and the last byte of a memory count as any other
+-- The first and the last byte of a memory count like any other.
 all_of_it : contents 0 (1 ∷ 2 ∷ 3 ∷ []) ≡ at 0 (1 ∷ 2 ∷ 3 ∷ []) ∷ []
 unfolding signed
 all_of_it = refl
 
--- two bytes with 255 zeros between them stand in one segment
+-- Two bytes with 255 zeros between them stand in one segment.
 pub they_join : contents 0 (zeros 10 ++ 7 ∷ zeros 255 ++ 8 ∷ zeros 300) ≡ at 10 (7 ∷ zeros 255 ++ 8 ∷ []) ∷ []
 unfolding signed
 they_join = refl
 
--- with 256 they stand in two
+-- Two bytes with 256 zeros between them stand in two segments.
 pub they_part : contents 0 (zeros 10 ++ 7 ∷ zeros 256 ++ 8 ∷ zeros 300) ≡ at 10 (7 ∷ []) ∷ at 267 (8 ∷ []) ∷ []
 unfolding signed
 they_part = refl
 
--- also where these lie in two blocks of a memory, and where more than two are one segment
+-- The limit of 255 zeros also holds for bytes in two blocks of a memory, and a segment may join
+-- more than two bytes.
 three_in_one : contents 0 (zeros 4000 ++ 7 ∷ zeros 255 ++ 8 ∷ zeros 255 ++ 9 ∷ zeros 256 ++ 10 ∷ []) ≡ at 4000 (7 ∷ zeros 255 ++ 8 ∷ zeros 255 ++ 9 ∷ []) ∷ at 4769 (10 ∷ []) ∷ []
 unfolding signed
 three_in_one = refl
@@ -60,7 +61,7 @@ behind_zeros : (n : ℕ) (bytes : List ℕ) → drop n (zeros n ++ bytes) ≡ by
 behind_zeros zero bytes = refl
 behind_zeros (suc n) bytes = behind_zeros n bytes
 
--- so many zeros, and a 1
+-- A memory with `n` zeros and then a 1 has one segment, at offset `n`.
 one_behind : (n : ℕ) → contents 0 (zeros n ++ 1 ∷ []) ≡ record { mode = data'.Active 0 (const.I32 (signed 32 n)); bytes = 1 ∷ [] } ∷ []
 one_behind n =
     let place : n + 0 ≡ n = omega arith in
@@ -68,7 +69,7 @@ one_behind n =
     ap (λ ps. map (stretch_segment 0 (zeros n ++ 1 ∷ [])) (stretches_over ps)) (zeros_before n 0 (1 ∷ []) ∙ ap (λ k. k ∷ []) place)
     ∙ ap (λ bytes. record { mode = data'.Active 0 (const.I32 (signed 32 n)); bytes = bytes } ∷ []) (ap₂ take count (behind_zeros n (1 ∷ [])))
 
--- the last byte of 65,536 pages
+-- The last byte of 65,536 pages stands at the offset that is written as -1.
 the_last_of_all : contents 0 (zeros 4294967295 ++ 1 ∷ []) ≡ record { mode = data'.Active 0 (const.I32 (negsuc 0)); bytes = 1 ∷ [] } ∷ []
 unfolding signed
 the_last_of_all = one_behind 4294967295

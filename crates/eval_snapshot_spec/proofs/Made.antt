@@ -1,4 +1,5 @@
--- How a snapshot is computed in parts: code is folded to see whether it names data segments and functions, and that is computed apart.
+-- How a snapshot is computed in parts: whether its code names data segments and functions is
+-- computed separately, by a fold of the code.
 use Rattle.base_lists.proofs.Common.{◌≡◌, ◌∙◌, ap, Bool, List, [], ◌∷◌, ◌++◌, length, take, cond, Option, Some, None}
 use Rattle.std.proofs.Common.{filter_map}
 use Rattle.wasm_tree_spec.specs.Prelude.{Module, any_uses_data, imported_globals, funcs_of}
@@ -8,7 +9,7 @@ use Rattle.eval_spec.specs.Prelude.{State, state_at_end}
 use Rattle.eval_snapshot_spec.specs.Snapshot.{added_funcs, declared_snapshot, export_left, globals_left, memory_segments, segments_left, snapshot_tree}
 use Rattle.eval_snapshot_spec.specs.Evaluated.{evaluated_count, evaluated_tree, funcs_named, tree_in}
 
--- the tree, where it is known whether a body names a data segment
+-- The tree of the snapshot, where it is given whether a body names a data segment.
 abbrev tree_where : Bool → Module → State → (evaluated kept : List Text) → Module
 tree_where names m s evaluated kept =
     record m {

@@ -20,7 +20,7 @@ c = 99 ∷ []
 
 -- ---- modules ----
 
--- type 0 takes and gives nothing
+-- A module whose type 0 has no parameters and no results, and that has nothing else.
 abbrev pub empty : Module
 empty = record { types = record { params = []; results = [] } ∷ []; imports = []; funcs = []; tables = []; mems = []; globals = []; exports = []; start = None; elems = []; datas = [] }
 
@@ -50,13 +50,13 @@ global ty init = record { ty = ty; init = init }
 abbrev pub num : ℕ → Instr
 num n = i.I32Const (pos n)
 
--- a byte is stored
+-- Code that stores a byte in memory 0.
 abbrev pub stores : (place value : ℕ) → List Instr
 stores place value = num place ∷ num value ∷ i.Store I32Store8 (record { align = 0; offset = 0; memory = 0 }) ∷ []
 
 -- ---- data segments ----
 
--- one of memory 0
+-- An active data segment of memory 0.
 abbrev pub at : ℕ → List ℕ → DataSeg
 at place bytes = record { mode = data'.Active 0 (const.I32 (pos place)); bytes = bytes }
 

@@ -45,7 +45,8 @@ first_evaluated_left = record three { exports = export b 2 ∷ export c 3 ∷ []
 first_evaluated_refs : declared first_evaluated_left ≡ first_evaluated_left
 first_evaluated_refs = search (rules, the_lemmas)
 
--- its export is gone, and its byte is there; the rest stays, and of the second, which was stopped, nothing is seen
+-- The export of the evaluated constructor is gone, and its byte is in the memory; the rest stays,
+-- and nothing of the second constructor, which was stopped, is visible.
 pub first_evaluated : evaluated_tree three (a ∷ b ∷ c ∷ []) [] ≡ first_evaluated_left
 unfolding out-Instr denote.Hole.Carrier.out wrapped signed store_from stored little_bytes
 first_evaluated = made three a [] [] false first_evaluated_left first_evaluated_left three_names_no_data first_evaluated_refs (a ∷ b ∷ c ∷ []) refl refl
@@ -56,7 +57,7 @@ first_kept_left = record three { funcs = three.funcs ++ func [] ∷ []; exports 
 first_kept_refs : declared first_kept_left ≡ first_kept_left
 first_kept_refs = search (rules, the_lemmas)
 
--- its export is kept, and denotes a new function with an empty body
+-- The export of an evaluated constructor that is kept denotes a new function with an empty body.
 pub first_kept : evaluated_tree three (a ∷ b ∷ c ∷ []) (a ∷ []) ≡ first_kept_left
 unfolding out-Instr denote.Hole.Carrier.out wrapped signed store_from stored little_bytes
 first_kept = made three a [] (a ∷ []) false first_kept_left first_kept_left three_names_no_data first_kept_refs (a ∷ b ∷ c ∷ []) refl refl
@@ -67,7 +68,7 @@ others_kept_left = record three { exports = export b 2 ∷ export c 3 ∷ []; da
 others_kept_refs : declared others_kept_left ≡ others_kept_left
 others_kept_refs = search (rules, the_lemmas)
 
--- a name that is no evaluated constructor's is kept anyway
+-- A name that is not an evaluated constructor's is kept in any case.
 others_kept : evaluated_tree three (a ∷ b ∷ c ∷ []) (b ∷ (122 ∷ []) ∷ []) ≡ others_kept_left
 unfolding out-Instr denote.Hole.Carrier.out wrapped signed store_from stored little_bytes
 others_kept = made three a [] (b ∷ (122 ∷ []) ∷ []) false others_kept_left others_kept_left three_names_no_data others_kept_refs (a ∷ b ∷ c ∷ []) refl refl
@@ -78,7 +79,7 @@ two_kept_left = record three { funcs = three.funcs ++ func [] ∷ []; exports = 
 two_kept_refs : declared two_kept_left ≡ two_kept_left
 two_kept_refs = search (rules, the_lemmas)
 
--- two that are kept share the function
+-- Two kept exports of evaluated constructors share the empty function.
 pub two_kept : evaluated_tree three (c ∷ a ∷ []) (a ∷ c ∷ []) ≡ two_kept_left
 unfolding out-Instr denote.Hole.Carrier.out wrapped signed store_from stored little_bytes
 two_kept = made three c (a ∷ []) (a ∷ c ∷ []) false two_kept_left two_kept_left three_names_no_data two_kept_refs (c ∷ a ∷ []) refl refl
@@ -92,7 +93,7 @@ other_name_left = record three { exports = export b 1 ∷ []; datas = at 1024 (4
 other_name_refs : declared other_name_left ≡ other_name_left
 other_name_refs = search (rules, the_lemmas)
 
--- another export of the same function stays what it was
+-- Another export of the same function stays as it was.
 pub other_name : evaluated_tree twice_exported (a ∷ []) [] ≡ other_name_left
 unfolding out-Instr denote.Hole.Carrier.out wrapped signed store_from stored little_bytes
 other_name = made twice_exported a [] [] false other_name_left other_name_left three_names_no_data other_name_refs (a ∷ []) refl refl
@@ -122,7 +123,7 @@ start_made_left = record trapping { exports = export a 0 ∷ []; start = None }
 start_made_refs : declared start_made_left ≡ start_made_left
 start_made_refs = search (rules, the_lemmas)
 
--- where it comes second the start is gone
+-- The start is gone where the trap comes second, after an evaluated constructor.
 pub start_made : evaluated_tree trapping (b ∷ a ∷ []) [] ≡ start_made_left
 unfolding out-Instr denote.Hole.Carrier.out wrapped signed store_from stored little_bytes
 start_made = made trapping b [] [] false start_made_left start_made_left trapping_names_no_data start_made_refs (b ∷ a ∷ []) refl refl
@@ -132,7 +133,8 @@ start_made = made trapping b [] [] false start_made_left start_made_left trappin
 abbrev pub ref_global : GlobalType
 ref_global = record { ty = Ref func_ref; mutable = true }
 
--- Of the globals behind an imported one, the first two begin with its value. The constructor sets the first to -1 and the fourth to itself.
+-- A module with an imported global, of which the first two defined globals read the value. The
+-- constructor sets the first of the defined globals to -1 and the fourth to itself.
 abbrev pub counting : Module
 counting = record empty {
   imports = import (im.Global fixed_i32) ∷ [];
@@ -155,7 +157,7 @@ values_left_left = record counting {
 values_left_refs : declared values_left_left ≡ values_left_left
 values_left_refs = search (rules, the_lemmas)
 
--- what was set has its value, and what is unknown keeps its initialiser
+-- A global that was set has its value, and one whose value is unknown keeps its initialiser.
 pub values_left : evaluated_tree counting (a ∷ []) [] ≡ values_left_left
 unfolding out-Instr denote.Hole.Carrier.out wrapped signed store_from stored little_bytes
 values_left = made counting a [] [] false values_left_left values_left_left counting_names_no_data values_left_refs (a ∷ []) refl refl
@@ -177,7 +179,7 @@ declared_again_out = record named { exports = []; elems = declaring (0 ∷ []) �
 declared_again_refs : declared declared_again_left ≡ declared_again_out
 declared_again_refs = search (rules, the_lemmas)
 
--- a function that a body names is declared where its export goes
+-- A function that a body names is declared where its export is removed.
 pub declared_again : evaluated_tree named (a ∷ []) [] ≡ declared_again_out
 unfolding out-Instr denote.Hole.Carrier.out wrapped signed store_from stored little_bytes
 declared_again = made named a [] [] false declared_again_left declared_again_out named_names_no_data declared_again_refs (a ∷ []) refl refl
@@ -191,14 +193,14 @@ declared_too_out = record named { funcs = named.funcs ++ func [] ∷ []; exports
 declared_too_refs : declared declared_too_left ≡ declared_too_out
 declared_too_refs = search (rules, the_lemmas)
 
--- and where its export denotes the empty function
+-- A function that a body names is declared where its export denotes the empty function instead.
 declared_too : evaluated_tree named (a ∷ []) (a ∷ []) ≡ declared_too_out
 unfolding out-Instr denote.Hole.Carrier.out wrapped signed store_from stored little_bytes
 declared_too = made named a [] (a ∷ []) false declared_too_left declared_too_out named_names_no_data declared_too_refs (a ∷ []) refl refl
 
 -- ---- the type of the empty function ----
 
--- the second and the third type take and give nothing
+-- Three function types, of which the second and the third have no parameters and no results.
 abbrev pub three_types : List FuncType
 three_types = record { params = I32 ∷ []; results = [] } ∷ record { params = []; results = [] } ∷ record { params = []; results = [] } ∷ []
 
@@ -214,14 +216,15 @@ least_type_left = record typed { funcs = typed.funcs ++ record { ty = 1; locals 
 least_type_refs : declared least_type_left ≡ least_type_left
 least_type_refs = search (rules, the_lemmas)
 
--- it is the least
+-- The type of the empty function is the first one without parameters and results.
 pub least_type : evaluated_tree typed (a ∷ []) (a ∷ []) ≡ least_type_left
 unfolding out-Instr denote.Hole.Carrier.out wrapped signed store_from stored little_bytes
 least_type = made typed a [] (a ∷ []) false least_type_left least_type_left typed_names_no_data least_type_refs (a ∷ []) refl refl
 
 -- ---- data segments ----
 
--- the constructor drops the third segment; a function that is never called names the second
+-- A module whose constructor drops the third data segment, and in which a function that is never
+-- called names the second.
 abbrev pub segments : Module
 segments = record empty {
   funcs = func (i.DataDrop 2 ∷ []) ∷ func (i.Block bt.Empty (i.DataDrop 1 ∷ []) ∷ []) ∷ [];
@@ -239,7 +242,8 @@ old_ones_left = record segments { exports = []; datas = passive [] ∷ passive (
 old_ones_refs : declared old_ones_left ≡ old_ones_left
 old_ones_refs = search (rules, the_lemmas)
 
--- each keeps its place: the active one and the one that was dropped are empty, the passive one that was not stays; behind them stands what the memory holds
+-- Each data segment keeps its index: the active one and the dropped one are empty, and the passive
+-- one that was not dropped stays. After them come the segments of what the memory holds.
 pub old_ones : evaluated_tree segments (a ∷ []) [] ≡ old_ones_left
 unfolding out-Instr denote.Hole.Carrier.out wrapped signed store_from stored little_bytes
 old_ones = made segments a [] [] true old_ones_left old_ones_left segments_names_data old_ones_refs (a ∷ []) refl refl
@@ -256,7 +260,7 @@ left_out_left = record unnamed { exports = []; datas = at 4095 (7 ∷ 8 ∷ []) 
 left_out_refs : declared left_out_left ≡ left_out_left
 left_out_refs = search (rules, the_lemmas)
 
--- where no body names a segment they are left out
+-- The old data segments are left out where no body names a data segment.
 pub left_out : evaluated_tree unnamed (a ∷ []) [] ≡ left_out_left
 unfolding out-Instr denote.Hole.Carrier.out wrapped signed store_from stored little_bytes
 left_out = made unnamed a [] [] false left_out_left left_out_left unnamed_names_no_data left_out_refs (a ∷ []) refl refl
@@ -269,7 +273,8 @@ ctors = 95 ∷ 95 ∷ 119 ∷ 97 ∷ 115 ∷ 109 ∷ 95 ∷ 99 ∷ 97 ∷ 108 �
 abbrev pub numbers : FuncType
 numbers = record { params = I32 ∷ []; results = I32 ∷ [] }
 
--- The functions are log, which is imported, ctors, init, twice and run; the memory begins with two bytes at 1024, and ctors calls init, which stores 42 at 1028.
+-- A module with the functions log, which is imported, ctors, init, twice and run. The memory begins
+-- with two bytes at 1024, and ctors calls init, which stores 42 at 1028.
 abbrev pub linked : Module
 linked = record empty {
   types = record { params = []; results = [] } ∷ numbers ∷ record { params = I32 ∷ []; results = [] } ∷ [];

@@ -1,4 +1,5 @@
--- The limits of turns, depth and written blocks at their numbers, of states that are one step away from them.
+-- The limits of turns, depth and written blocks: their numbers, and states that are one step away
+-- from them.
 use Rattle.base_lists.proofs.Common.{◌≡◌, refl, ℕ, pos, List, [], ◌∷◌, Some, None, Bool, true, false, replicate, ◌++◌, Option}
 use Rattle.wasm_tree.specs.declared.types.BlockType.TheVariants as bt
 use Rattle.wasm_tree_spec.specs.Prelude.{Instr, I32Store8, I32}
@@ -25,7 +26,7 @@ the_depth = refl
 the_blocks : MOST_BLOCKS ≡ 16384
 the_blocks = refl
 
--- ---- turns: after four of them a fill of 3,199,999,807 bytes takes all that are left, and one byte more does not go ----
+-- ---- turns: after four turns a fill of 3,199,999,807 bytes takes all others ----
 
 abbrev env : Env
 env = record { store = imported_store (with_page (does [])); inst = own_inst (with_page (does [])) }
@@ -56,7 +57,7 @@ all_blocks = refl
 one_block_more : too_many_blocks (written_after none (Gives (Bytes 0 0 67108865))) ≡ true
 one_block_more = refl
 
--- they are told apart: what lies in two blocks writes both
+-- Blocks are counted one by one: a write that lies in two blocks writes both.
 two_blocks : written_after (replicate 3 false) (Gives (Bytes 0 4095 2)) ≡ true ∷ true ∷ false ∷ []
 two_blocks = refl
 
@@ -72,7 +73,7 @@ inst = record (own_inst (after_import 0 [])) { mems = 0 ∷ []; funcs = 0 ∷ 1 
 abbrev with_locals : ℕ → Func
 with_locals n = Code (record { params = []; results = [] }) inst (replicate n I32) []
 
--- a memory of 128 bytes, and these blocks written
+-- A state with a memory of 128 bytes, one turn left and these blocks written.
 abbrev state : List Bool → State
 state written = record {
   store = record (imported_store (after_import 0 [])) {
@@ -84,7 +85,7 @@ state written = record {
   turns = 1;
 }
 
--- in so many levels and one more, the innermost with this code and these values
+-- A frame of `n + 1` levels, of which the innermost has this code and these values.
 abbrev frame : ℕ → List Val → List Instr → Entry
 frame n vs code = Running (record {
   inst = inst;
@@ -108,7 +109,7 @@ a_block_again : stop (after_import 0 []) (state (true ∷ false ∷ replicate 16
 unfolding out-Instr denote.Hole.Carrier.out store_from stored little_bytes
 a_block_again = refl
 
--- the further turns of a fill come before
+-- The further turns of a fill are tested before its blocks.
 abbrev fills_a_block : Entry
 fills_a_block = frame 0 (filling 64) (i.MemoryFill 0 ∷ [])
 
@@ -120,7 +121,7 @@ a_fill_of_a_block : stop (after_import 0 []) (record (state (false ∷ replicate
 unfolding out-Instr denote.Hole.Carrier.out
 a_fill_of_a_block = refl
 
--- the frame and 999 labels are open
+-- A block that begins where the frame and 999 labels are open is one label too many.
 a_label_too_many : stop (after_import 0 []) (state []) (frame 999 [] (i.Block bt.Empty [] ∷ []) ∷ []) ≡ Some why.Depth
 unfolding out-Instr denote.Hole.Carrier.out
 a_label_too_many = refl
@@ -129,7 +130,7 @@ the_last_label : stop (after_import 0 []) (state []) (frame 998 [] (i.Block bt.E
 unfolding out-Instr denote.Hole.Carrier.out
 the_last_label = refl
 
--- an `if` that has no `else` opens one too, where its condition is 0
+-- An `if` without `else` opens a label too, even if its condition is 0.
 an_empty_if : stop (after_import 0 []) (state []) (frame 999 (Num W32 0 ∷ []) (i.If bt.Empty [] [] ∷ []) ∷ []) ≡ Some why.Depth
 unfolding out-Instr denote.Hole.Carrier.out
 an_empty_if = refl
@@ -142,33 +143,34 @@ the_last_frame : stop (after_import 0 []) (state []) (frame 998 [] (i.Call 1 ∷
 unfolding out-Instr denote.Hole.Carrier.out
 the_last_frame = refl
 
--- after the turns of its locals
+-- The depth of a call is tested after the turns of the locals of its frame.
 turns_before_depth : stop (after_import 0 []) (state []) (frame 999 [] (i.Call 2 ∷ []) ∷ []) ≡ Some why.Steps
 unfolding out-Instr denote.Hole.Carrier.out
 turns_before_depth = refl
 
--- and after a trap, here of an `if` that has no number to test
+-- The depth is tested after a trap, here of an `if` that has no number to test.
 a_trap_before_depth : stop (after_import 0 []) (state []) (frame 999 [] (i.If bt.Empty [] [] ∷ []) ∷ []) ≡ Some why.Trap
 unfolding out-Instr denote.Hole.Carrier.out
 a_trap_before_depth = refl
 
--- all frames count
+-- The depth counts the labels of all frames.
 over_others : stop (after_import 0 []) (state []) (frame 499 [] (i.Loop bt.Empty [] ∷ []) ∷ frame 499 [] [] ∷ []) ≡ Some why.Depth
 unfolding out-Instr denote.Hole.Carrier.out
 over_others = refl
 
--- an import is not opened
+-- A call of an import opens no frame, so `Import` stops it rather than `Depth`.
 an_import_first : stop (after_import 0 []) (state []) (frame 999 [] (i.Call 0 ∷ []) ∷ []) ≡ Some why.Import
 unfolding out-Instr denote.Hole.Carrier.out
 an_import_first = refl
 
--- the end of a level needs no turn
+-- The end of a level needs no turn.
 no_turn_for_an_end : stop (after_import 0 []) (record (state []) { turns = 0 }) (frame 3 [] [] ∷ []) ≡ None
 no_turn_for_an_end = refl
 
 -- ---- a segment ----
 
--- a byte that is copied to a place
+-- What stops an active data segment of one byte that is copied to a place, if all blocks but the
+-- first are written.
 abbrev copied_to : ℕ → Option Stop
 copied_to place = stop_of (with_data (with_page (does [])) (record (state (false ∷ replicate 16384 true)) { store = record (state []).store { datas = record { bytes = 5 ∷ []; dropped = false } ∷ [] } })
     (record { part = 0; inst = own_inst (with_page (does [])); address = 0; segment = data_at (const.I32 (pos place)) (5 ∷ []) }))

@@ -1,4 +1,4 @@
--- Small modules that are evaluated, and what they come to.
+-- Small modules that are evaluated, and the results of their evaluations.
 use Rattle.base_lists.proofs.Common.{ℕ, pos, List, [], ◌∷◌, Option, Some, None, true, false, slice_get}
 use Rattle.base_lists.specs.Options.{◌>>=◌}
 use Rattle.wasm_num.specs.declared.BinOp.TheVariants.{I32Sub}
@@ -15,7 +15,7 @@ use Rattle.eval_spec.specs.Prelude.{State, stop_of, evaluated, evaluated_within,
 
 -- ---- modules ----
 
--- types 0 to 2 are [] to [], [] to [i32] and [i32] to []
+-- A module that has three types and nothing else: 0 to 2 are [] to [], [] to [i32] and [i32] to [].
 abbrev pub empty : Module
 empty = record {
   types = record { params = []; results = [] } ∷ record { params = []; results = I32 ∷ [] } ∷ record { params = I32 ∷ []; results = [] } ∷ [];
@@ -33,11 +33,11 @@ empty = record {
 abbrev pub func : List Instr → Func
 func body = record { ty = 0; locals = []; body = body }
 
--- a module whose function 0 has this body
+-- A module whose function 0 has this body.
 abbrev pub does : List Instr → Module
 does body = record empty { funcs = func body ∷ [] }
 
--- with one page of memory, or such a memory that is imported
+-- The limits of one page, of a memory that is defined (`with_page`) or imported.
 abbrev pub page : Limits
 page = record { min = 1; max = None }
 
@@ -47,14 +47,15 @@ with_page m = record m { mems = page ∷ [] }
 abbrev pub imports : ImportDesc → Module → Module
 imports d m = record m { imports = record { «module» = 101 ∷ []; field = 102 ∷ []; desc = d } ∷ [] }
 
--- function 0 is imported, of this type, and function 1 has this body
+-- A module that imports function 0, of this type, and whose function 1 has this body.
 abbrev pub after_import : ℕ → List Instr → Module
 after_import ty body = imports (im.Func ty) (does body)
 
 abbrev pub three_slots : TableType
 three_slots = record { ty = func_ref; limits = record { min = 3; max = None } }
 
--- with a table of three slots, into which these items are copied from the second on
+-- The module with a table of three slots, into which these items are copied from the second slot
+-- on.
 abbrev pub with_slots : List ConstExpr → Module → Module
 with_slots items m = record m { tables = three_slots ∷ []; elems = record { mode = elem.Active 0 (const.I32 (pos 1)); ty = func_ref; items = items } ∷ [] }
 
@@ -67,11 +68,11 @@ fixed_i32 = record { ty = I32; mutable = false }
 abbrev pub fixed_ref : GlobalType
 fixed_ref = record { ty = Ref func_ref; mutable = false }
 
--- global 0 is imported, and global 1 begins with its value
+-- A module that imports global 0, and whose global 1 begins with its value.
 abbrev pub with_global : List Instr → Module
 with_global body = record (imports (im.Global fixed_i32) (does body)) { globals = record { ty = mutable_i32; init = const.Global 0 } ∷ [] }
 
--- data that is copied from a place on
+-- An active data segment of these bytes, which are copied to this offset.
 abbrev pub data_at : ConstExpr → List ℕ → DataSeg
 data_at offset bytes = record { mode = data'.Active 0 offset; bytes = bytes }
 
@@ -80,11 +81,11 @@ data_at offset bytes = record { mode = data'.Active 0 offset; bytes = bytes }
 abbrev pub num : ℕ → Instr
 num n = i.I32Const (pos n)
 
--- a byte is stored
+-- The instructions that store a byte at a place.
 abbrev pub stores : (place value : ℕ) → List Instr
 stores place value = num place ∷ num value ∷ i.Store I32Store8 (record { align = 0; offset = 0; memory = 0 }) ∷ []
 
--- a loop of so many rounds; the function has a local
+-- A module whose function 0 has a local and makes `n` rounds of a loop before `rest`.
 abbrev pub rounds : ℕ → List Instr → Module
 rounds n rest = record empty {
   funcs = record {
@@ -94,9 +95,10 @@ rounds n rest = record empty {
   } ∷ [];
 }
 
--- ---- what they come to ----
+-- ---- results ----
 
--- what stops the call of function 0, with the whole budget or with so many turns
+-- What stops the call of function 0, with the whole budget or with a number of turns
+-- (`stops_within`).
 abbrev pub stops : Module → Option Stop
 stops m = stop_of (evaluated m (0 ∷ []))
 

@@ -1,4 +1,5 @@
--- Small evaluations, computed: which constructors are evaluated, what stops the next, and the state after them.
+-- Small evaluations, computed: which constructors are evaluated, what stops the next, and the state
+-- after them.
 use Rattle.base_lists.proofs.Common.{◌≡◌, refl, pos, negsuc, [], ◌∷◌, ◌++◌, Some, None, true, false, replicate, take, drop}
 use Rattle.base_lists.specs.Options.{◌>>=◌}
 use Rattle.wasm_tree.specs.declared.instr.Instr.{out-Instr}
@@ -41,12 +42,12 @@ three_turns_are_spent : turns_left (state_at_end three (1 ∷ 2 ∷ 3 ∷ [])) �
 unfolding out-Instr denote.Hole.Carrier.out wrapped store_from stored little_bytes
 three_turns_are_spent = refl
 
--- of sixteen blocks the first was written
+-- The first of sixteen blocks is written.
 one_block_is_written : (state_at_end three (1 ∷ []) >>= λ s. Some s.written) ≡ Some (true ∷ replicate 15 false)
 unfolding out-Instr denote.Hole.Carrier.out wrapped store_from stored little_bytes
 one_block_is_written = refl
 
--- the stopped call leaves its turns spent, and its byte as it was
+-- A stopped call leaves its turns spent, and the memory as before the call.
 after_the_stop : (state_of (evaluated three (1 ∷ [])) >>= λ s. Some (left_behind s (call_end three s 2)).turns) ≡ Some 49999993
 unfolding out-Instr denote.Hole.Carrier.out wrapped store_from stored little_bytes
 after_the_stop = refl
@@ -66,12 +67,12 @@ none_is_done = refl
 abbrev segments_at : Module
 segments_at = record (with_page (does (i.DataDrop 1 ∷ []))) { datas = data_at (const.I32 (pos 4095)) (7 ∷ 8 ∷ []) ∷ record { mode = data'.Passive; bytes = 9 ∷ [] } ∷ [] }
 
--- the bytes of a segment lie in two blocks
+-- A data segment whose bytes lie in two blocks writes both.
 two_blocks : (state_at_end segments_at [] >>= λ s. Some s.written) ≡ Some (true ∷ true ∷ replicate 14 false)
 unfolding wrapped
 two_blocks = refl
 
--- and cost no turns
+-- The copies of active segments take no turns.
 no_turns : turns_left (state_at_end segments_at []) ≡ Some 50000000
 unfolding wrapped
 no_turns = refl
@@ -80,7 +81,7 @@ its_bytes : byte segments_at 4096 (state_at_end segments_at []) ≡ Some 8
 unfolding wrapped
 its_bytes = refl
 
--- an active segment is dropped when it was copied
+-- An active segment is dropped once it is copied.
 dropped_at_once : (state_at_end segments_at [] >>= λ s. Some (is_dropped s 0)) ≡ Some true
 unfolding wrapped
 dropped_at_once = refl
@@ -102,7 +103,8 @@ a_global_that_was_set = refl
 
 -- ---- a module as a linker writes it ----
 
--- The functions are log, which is imported, ctors, init, twice and run; the memory begins with two bytes at 1024, and ctors calls init, which stores 42 at 1028.
+-- A module with the functions log, which is imported, ctors, init, twice and run. Its memory begins
+-- with two bytes at 1024, and ctors calls init, which stores 42 at 1028.
 abbrev linked : Module
 linked = record empty {
   types = record { params = []; results = [] } ∷ record { params = I32 ∷ []; results = I32 ∷ [] } ∷ record { params = I32 ∷ []; results = [] } ∷ [];
@@ -124,7 +126,7 @@ its_memory : (state_at_end linked (1 ∷ []) >>= λ s. Some (take 5 (drop 1024 (
 unfolding out-Instr denote.Hole.Carrier.out wrapped store_from stored little_bytes
 its_memory = refl
 
--- run calls log, but has a parameter
+-- The function run calls log, but its parameter stops it before.
 run_is_not_evaluated : stopped_by linked (1 ∷ 4 ∷ []) ≡ Some why.Signature
 unfolding out-Instr denote.Hole.Carrier.out wrapped store_from stored little_bytes
 run_is_not_evaluated = refl

@@ -1,4 +1,4 @@
--- Each stop, by a small module that comes to it, and by one that only just does not.
+-- Each stop, by a small module whose evaluation is stopped by it, and by a similar one that is not.
 use Rattle.base_lists.proofs.Common.{◌≡◌, refl, pos, List, [], ◌∷◌, ◌++◌, Some, None}
 use Rattle.wasm_tree.specs.declared.types.RefType.TheVariants.{Func as func_ref}
 use Rattle.wasm_tree_spec.specs.Prelude.{I32, Instr, I32Load, Module}
@@ -24,12 +24,12 @@ through_a_table : stopped_by (with_slots (const.Func 0 ∷ []) (after_import 0 (
 unfolding out-Instr denote.Hole.Carrier.out wrapped
 through_a_table = refl
 
--- also where the types differ
+-- A call through a table is stopped even if the type of the import is not the expected one.
 of_another_type : stopped_by (with_slots (const.Func 0 ∷ []) (after_import 0 (num 1 ∷ i.CallIndirect 1 0 ∷ i.Drop ∷ []))) (1 ∷ []) ≡ Some why.Import
 unfolding out-Instr denote.Hole.Carrier.out wrapped
 of_another_type = refl
 
--- the constructor itself is imported
+-- The constructor may be an import itself.
 the_constructor : stopped_by (after_import 0 []) (0 ∷ []) ≡ Some why.Import
 the_constructor = refl
 
@@ -57,7 +57,7 @@ a_segment_is_dropped : stops (with_slots [] (does (i.ElemDrop 0 ∷ []))) ≡ So
 unfolding out-Instr denote.Hole.Carrier.out wrapped
 a_segment_is_dropped = refl
 
--- before what is unknown
+-- A write to a table is tested before the use of an unknown place.
 a_slot_of_an_imported_table_is_set : stops (imports (im.Table three_slots) (does (num 0 ∷ i.RefNull func_ref ∷ i.TableSet 0 ∷ []))) ≡ Some why.TableWrite
 unfolding out-Instr denote.Hole.Carrier.out wrapped
 a_slot_of_an_imported_table_is_set = refl
@@ -76,7 +76,7 @@ an_unknown_global_is_read : stops (with_global (i.GlobalGet 1 ∷ i.Drop ∷ [])
 unfolding out-Instr denote.Hole.Carrier.out
 an_unknown_global_is_read = refl
 
--- once it was set it is known
+-- A global that was set is known.
 a_global_that_was_set_is_read : stops (with_global (num 7 ∷ i.GlobalSet 1 ∷ i.GlobalGet 1 ∷ i.Drop ∷ [])) ≡ None
 unfolding out-Instr denote.Hole.Carrier.out wrapped
 a_global_that_was_set_is_read = refl
@@ -93,7 +93,8 @@ an_imported_table_is_called : stops (imports (im.Table three_slots) (does (num 9
 unfolding out-Instr denote.Hole.Carrier.out wrapped
 an_imported_table_is_called = refl
 
--- the first item is that of an imported global, and the second a function that does nothing
+-- A module whose table has the value of an imported global in slot 1, and in slot 2 a function that
+-- does nothing.
 abbrev half_known : List Instr → Module
 half_known body = with_slots (const.Global 0 ∷ const.Func 1 ∷ []) (record (imports (im.Global fixed_ref) (does body)) { funcs = func body ∷ func [] ∷ [] })
 
@@ -109,7 +110,7 @@ a_known_slot_is_called : stops (half_known (num 2 ∷ i.CallIndirect 0 0 ∷ num
 unfolding out-Instr denote.Hole.Carrier.out wrapped
 a_known_slot_is_called = refl
 
--- a known item that is copied there later is what the slot holds
+-- The module with a second segment, which copies a known item into slot 1.
 abbrev filled_again : List Instr → Module
 filled_again body = let m = half_known body in record m { elems = m.elems ++ record { mode = elem.Active 0 (const.I32 (pos 1)); ty = func_ref; items = const.Func 1 ∷ [] } ∷ [] }
 
@@ -117,7 +118,7 @@ a_slot_that_was_filled_again_is_called : stops (filled_again (num 1 ∷ i.CallIn
 unfolding out-Instr denote.Hole.Carrier.out wrapped
 a_slot_that_was_filled_again_is_called = refl
 
--- and an unknown item is too
+-- The module with a third segment, which copies an unknown item into slot 2.
 abbrev unknown_again : List Instr → Module
 unknown_again body = let m = filled_again body in record m { elems = m.elems ++ record { mode = elem.Active 0 (const.I32 (pos 2)); ty = func_ref; items = const.Global 0 ∷ [] } ∷ [] }
 
@@ -125,12 +126,12 @@ a_slot_that_is_unknown_again_is_called : stops (unknown_again (num 2 ∷ i.CallI
 unfolding out-Instr denote.Hole.Carrier.out wrapped
 a_slot_that_is_unknown_again_is_called = refl
 
--- with length 0, past its end
+-- A fill of an imported memory is stopped even if it fills no bytes.
 an_imported_memory_is_filled : stops (imports (im.Memory page) (does (num 65537 ∷ num 0 ∷ num 0 ∷ i.MemoryFill 0 ∷ []))) ≡ Some why.Unknown
 unfolding out-Instr denote.Hole.Carrier.out wrapped
 an_imported_memory_is_filled = refl
 
--- but data.drop uses no memory
+-- The instruction data.drop uses no memory.
 data_is_dropped : stops (record (imports (im.Memory page) (does (i.DataDrop 0 ∷ []))) { datas = record { mode = data'.Passive; bytes = [] } ∷ [] }) ≡ None
 unfolding out-Instr denote.Hole.Carrier.out
 data_is_dropped = refl
@@ -168,7 +169,7 @@ a_start_that_traps : stops (record (does (i.Unreachable ∷ [])) { start = Some 
 unfolding out-Instr denote.Hole.Carrier.out
 a_start_that_traps = refl
 
--- code that no validation lets through stops there too
+-- Code that is not valid, to which no rule applies, stops with `Trap` too.
 ill_typed : stops (does (i.Drop ∷ [])) ≡ Some why.Trap
 unfolding out-Instr denote.Hole.Carrier.out
 ill_typed = refl
@@ -181,13 +182,13 @@ a_result = refl
 a_parameter : stops (record empty { funcs = record { ty = 2; locals = []; body = [] } ∷ [] }) ≡ Some why.Signature
 a_parameter = refl
 
--- before Import
+-- The signature of a constructor is tested before `Import`.
 an_imported_result : stopped_by (after_import 1 []) (0 ∷ []) ≡ Some why.Signature
 an_imported_result = refl
 
 -- ---- the turns do not suffice ----
 
--- a loop of three rounds takes 2 + 6 * 3 turns
+-- A loop of three rounds takes 2 + 6 * 3 turns.
 twenty_turns : stops_within 20 (rounds 3 []) ≡ None
 unfolding out-Instr denote.Hole.Carrier.out shown-the_row-Instr-0 denote.Hole.Carrier.shown denote.Hole.Carrier.hidden wrapped bin_from bin_to bin_value
 twenty_turns = refl
@@ -200,7 +201,7 @@ one_instruction_more : stops_within 20 (rounds 3 (i.Nop ∷ [])) ≡ Some why.St
 unfolding out-Instr denote.Hole.Carrier.out shown-the_row-Instr-0 denote.Hole.Carrier.shown denote.Hole.Carrier.hidden wrapped bin_from bin_to bin_value
 one_instruction_more = refl
 
--- 128 bytes are two further turns
+-- A fill of 128 bytes takes two further turns.
 a_fill : stops_within 6 (with_page (does (num 0 ∷ num 7 ∷ num 128 ∷ i.MemoryFill 0 ∷ []))) ≡ None
 unfolding out-Instr denote.Hole.Carrier.out wrapped
 a_fill = refl
@@ -209,12 +210,12 @@ a_fill_without_turns : stops_within 5 (with_page (does (num 0 ∷ num 7 ∷ num 
 unfolding out-Instr denote.Hole.Carrier.out wrapped
 a_fill_without_turns = refl
 
--- its bounds are tested before
+-- The bounds of a fill are tested before its further turns.
 a_fill_past_the_end : stops_within 4 (with_page (does (num 65535 ∷ num 7 ∷ num 128 ∷ i.MemoryFill 0 ∷ []))) ≡ Some why.Trap
 unfolding out-Instr denote.Hole.Carrier.out wrapped
 a_fill_past_the_end = refl
 
--- function 0 calls function 1, or what stands here does, which declares 128 locals
+-- A module whose function 0 calls function 1, which declares 128 locals.
 abbrev many_locals : Module
 many_locals = record empty { funcs = func (i.Call 1 ∷ []) ∷ record { ty = 0; locals = record { count = 128; ty = I32 } ∷ []; body = [] } ∷ [] }
 
@@ -226,24 +227,24 @@ a_frame_without_turns : stop_of (evaluated_within many_locals 2 (0 ∷ [])) ≡ 
 unfolding out-Instr denote.Hole.Carrier.out
 a_frame_without_turns = refl
 
--- the host's frame costs them too, and the call itself nothing
+-- A call by the embedder takes the turns of the locals, and none for itself.
 the_hosts_frame : stop_of (evaluated_within many_locals 2 (1 ∷ [])) ≡ None
 the_hosts_frame = refl
 
 the_hosts_frame_without_turns : stop_of (evaluated_within many_locals 1 (1 ∷ [])) ≡ Some why.Steps
 the_hosts_frame_without_turns = refl
 
--- the one turn of an instruction comes before all else
+-- The one turn of an instruction is tested before all else.
 growth_without_a_turn : stops_within 1 (with_page (does (num 0 ∷ i.MemoryGrow 0 ∷ i.Drop ∷ []))) ≡ Some why.Steps
 unfolding out-Instr denote.Hole.Carrier.out wrapped
 growth_without_a_turn = refl
 
--- the start spends from the same budget
+-- The start spends from the budget of the evaluation.
 after_a_start : stops_within 1 (record (does (i.Nop ∷ [])) { start = Some 0 }) ≡ Some why.Steps
 unfolding out-Instr denote.Hole.Carrier.out
 after_a_start = refl
 
--- and so does each constructor
+-- Each constructor spends from the budget of the evaluation.
 two_calls : stop_of (evaluated_within (does (i.Nop ∷ i.Nop ∷ [])) 4 (0 ∷ 0 ∷ [])) ≡ None
 unfolding out-Instr denote.Hole.Carrier.out
 two_calls = refl
@@ -257,6 +258,6 @@ two_calls_without_turns = refl
 two_memories : stops (record (does []) { mems = page ∷ page ∷ [] }) ≡ Some why.Memory
 two_memories = refl
 
--- before a segment out of bounds
+-- Several memories are found before a segment that is out of bounds.
 two_memories_first : stops (record (imports (im.Memory page) (with_page (does []))) { datas = data_at (const.I32 (pos 65536)) (1 ∷ []) ∷ [] }) ≡ Some why.Memory
 two_memories_first = refl

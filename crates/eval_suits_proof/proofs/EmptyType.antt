@@ -1,4 +1,5 @@
--- A module of which a function was called has a type that takes and gives nothing.
+-- A module of which a constructor or the start was called has a type without parameters and
+-- results.
 use Rattle.base_lists.proofs.Common.{◌≡◌, ◌∙◌, ℕ, ◌-◌, arith, List, [], ◌∷◌, ◌++◌, Bool, true, false, not, cond, Option, Some, None, is_some, slice_get, refl, sym, ap, subst, inl, inr, nat_lt, cons_option, filter_map, same_Some, slice_get_within, chosen_from, all_there_at, all_there_length}
 use Rattle.base_lists.proofs.Common.{and_then_is, append_from, slice_get_there}
 use Rattle.base_lists.specs.Options.{all_there}
@@ -17,7 +18,7 @@ use Rattle.eval_suits_proof.specs.Typed.{EmptyTypesAreThere}
 
 -- ---- functions after the instantiation ----
 
--- the type of the function is one of the module's
+-- The type of the function is one of the module's types.
 abbrev HasTypeIn : Module → Func → Type 0
 HasTypeIn m f = (n : ℕ) × (slice_get m.types n ≡ Some (type_of_func f))
 
@@ -58,7 +59,7 @@ instantiated_typed kept machines m turns s e n f at =
 
 -- ---- calls ----
 
--- what comes to its end passed each of its tests, and so the first one
+-- A step that leads to a finished run passed each of its tests, hence the first one.
 passed : (m : Module) (b : Bool) (stop : Stop) (left : ℕ) (rest : List Test) (stage : Stage) (t : State) → run_end m (tried (test (not b) stop left ∷ rest) stage) ≡ Finished t → b ≡ true
 passed m true stop left rest stage t e = refl
 passed m false stop left rest stage t e = absurd (let z = e in cc)
@@ -77,7 +78,7 @@ call_has_type kept machines m turns s t func made e = by (slice_get s.store.func
         let ty = instantiated_typed kept machines m turns s made func f is in
         (ty.0, type_of_func f, ty.1, host_passed m s t f h)
 
--- what comes before calls that come to their end came to its own
+-- The stage before calls that finish is itself finished.
 first_finished : (m : Module) (t : Stage) (funcs : List ℕ) (s : State) → called_in_order m t funcs ≡ Finished s → (u : State) × (t ≡ Finished u)
 first_finished m (Finished u) funcs s e = (u, refl)
 first_finished m (Stopped x left) [] s e = absurd (let z = e in cc)
@@ -85,7 +86,8 @@ first_finished m (Stopped x left) (func ∷ funcs) s e = absurd (let z = e in cc
 first_finished m (Going u es) [] s e = absurd (let z = e in cc)
 first_finished m (Going u es) (func ∷ funcs) s e = absurd (let z = e in cc)
 
--- The first call is that of the start, or of the first function where there is no start.
+-- The first call of an evaluation is that of the start, or of the first function if there is no
+-- start.
 evaluation_has_type : SegmentsKeepFunctions → InstantiationsAreTheMachines → (m : Module) (turns : ℕ) (func : ℕ) (funcs : List ℕ) (s : State) → evaluated_within m turns (func ∷ funcs) ≡ Finished s → HasEmptyType m
 evaluation_has_type kept machines m turns func funcs s e = by (instantiated m turns) refl e
   where

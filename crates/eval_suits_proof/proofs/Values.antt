@@ -1,4 +1,4 @@
--- Values of globals are constants of their types.
+-- The values of globals after evaluated constructors are constants of the types of the globals.
 use Rattle.base_lists.proofs.Common.{◌≡◌, ◌∙◌, ap, sym, subst, refl, ◌+◌, length, map, Option, Some, None, Bool, true, false, cond, slice_get, lt-ltb, same_Some, append_right, map_at}
 use Rattle.base_lists.specs.Options.{◌>>=◌}
 use Rattle.wasm_tree_spec.specs.Prelude.{GlobalType, ValType, ConstExpr, GlobalDef, Module, same_type, funcs_of, imported_globals}

@@ -11,7 +11,7 @@ use Rattle.index_remap.proofs.ValueSteps.{pop_typed_rel}
 use Rattle.index_remap.proofs.Unknown.{to_off, to_related, changed_off, none_is_left, all_is_known}
 use Rattle.index_remap.proofs.StepsAgree.{frame_rel, left_rel, enter_rel, give_levels_rel, act_off}
 
--- where nothing stands below
+-- What holds of two stacks extended by an empty stack holds of the stacks themselves.
 pub whole : (P : List Entry → List Entry → Type 0) (es fs : List Entry) → P (es ++ []) (fs ++ []) → P es fs
 whole P es fs p = subst (λ xs. P xs fs) (append-nil es) (subst (P (es ++ [])) (append-nil fs) p)
 
@@ -19,7 +19,7 @@ pub entries_of : (R : Pairing) {s t : Store} {es fs : List Entry} → Above R []
 entries_of R {es = es} a =
     subst (ListRel (EntryRel R) es) (sym (a.right ∙ append-nil a.second)) (subst (λ xs. ListRel (EntryRel R) xs a.second) (sym (a.left ∙ append-nil a.first)) a.related)
 
--- a trap goes past entries of which none is a mark
+-- A trap unwinds the entries that are no marks, down to the first mark below them.
 past : (es fs : List Entry) → NoMark es → to_mark (es ++ fs) ≡ to_mark fs
 past [] fs h = refl
 past (Running f ∷ es) fs h = past es fs h.1
@@ -29,7 +29,7 @@ past (Waiting ts ∷ es) fs h = past es fs h.1
 past (Ended vs ∷ es) fs h = past es fs h.1
 past (Growing g ∷ es) fs h = past es fs h.1
 
--- at related marks the same waits
+-- Related entries that end a trap lead to the same caller.
 at_mark : {R : Pairing} {e f : Entry} (es fs : List Entry) → ends_trap e ≡ true → EntryRel R e f → (c : Caller) × (to_mark (e ∷ es) ≡ Gives (c, es)) × (to_mark (f ∷ fs) ≡ Gives (c, fs))
 at_mark es fs h mark = (Host, refl, refl)
 at_mark es fs h (opening x) = (Starter, refl, refl)
@@ -54,7 +54,8 @@ module _ (R : Pairing) (apart : OneToOneWhereWritten R) (cs ds : List Entry) whe
   above : {s t : Store} {es fs : List Entry} → ListRel (EntryRel R) es fs → Both s t (es ++ cs) (fs ++ ds)
   above e = record { first = _; second = _; related = e; left = refl; right = refl }
 
-  -- whatever relates the stores
+  -- The lemmas on values that are given and functions that are entered hold for any relation of the
+  -- stores.
   module _ (S : Store → Store → Type 0) where
     pub give_rel : {s t : Store} {vs ws : List Val} {e f : Entry} {es fs : List Entry} → S s t → ListRel (ValRel R) vs ws → EntryRel R e f → ListRel (EntryRel R) es fs →
         ResRel (NextRelBy R S Both) (give s vs (e ∷ (es ++ cs))) (give t ws (f ∷ (fs ++ ds)))
@@ -65,7 +66,8 @@ module _ (R : Pairing) (apart : OneToOneWhereWritten R) (cs ds : List Entry) whe
     give_rel s v (ended w) e = wrong
     give_rel s v (growing n) e = wrong
 
-    -- to what is on the stack below, where anything does
+    -- Values are given to the entry on top of the related entries, or, where there is none, to an
+    -- empty stack.
     give_below : {s t : Store} {vs ws : List Val} {es fs : List Entry} (us : List Val) → S s t → ListRel (ValRel R) vs ws → ListRel (EntryRel R) es fs → NeedsBelow es cs ds (Ends us) →
         ResRel (NextRelBy R S Both) (give s vs (es ++ cs)) (give t ws (fs ++ ds))
     give_below {s} {t} {vs = vs} {ws = ws} us h v nil needs = subst (λ xs. ResRel (NextRelBy R S Both) (give s vs xs) (give t ws ds)) (sym needs.0) (subst (λ ys. ResRel (NextRelBy R S Both) (give s vs []) (give t ws ys)) (sym needs.1) wrong)
@@ -80,7 +82,8 @@ module _ (R : Pairing) (apart : OneToOneWhereWritten R) (cs ds : List Entry) whe
         subst (λ ts. ResRel (NextRelBy R S Both) (bind (pop_typed f.results vs) (λ q. give s1 q.0 (es ++ cs))) (bind (pop_typed ts ws) (λ q. give t1 q.0 (fs ++ ds)))) p.results
         (bind_rel (pop_typed_rel R f.results v) (λ _ _ q. give_below vs s q.first e needs))
 
-  -- of stores that are related off a set
+  -- The lemmas on what a frame does, and on whole steps, are about stores that are related off a
+  -- set of unknown places.
   module _ (off : Unknowns) where
     perform_off : {s t : Store} {f g : Frame} {x y : Act} {es fs : List Entry} → StoreRelOff R off s t → FrameRel R f g → ActOff R off f.inst g.inst x y → ListRel (EntryRel R) es fs → NotOpaque R x → NeedsBelow es cs ds x →
         ResRel (NextOff R (left_after off (Gives x)) Both) (perform s f (es ++ cs) x) (perform t g (fs ++ ds) y)

@@ -1,4 +1,4 @@
--- Calls, ends, branches and blocks agree.
+-- Steps at calls, ends, branches and blocks agree.
 use Rattle.base_lists.proofs.Common.{◌≡◌, ◌∙◌, ℕ, List, [], ◌∷◌, ◌++◌, length, refl, sym, subst, append_assoc, slice_get, unwrap_or, nat_eq, same_there, cond_two, append_rel, get_rel}
 use Rattle.wasm_tree_spec.specs.Prelude.{Functions, Tables, ValType, BlockType, Instr, outs-Loop}
 use Rattle.wasm_tree.specs.declared.instr.Instr.TheOpen.{Instr-F}
@@ -85,7 +85,7 @@ module _ (R : Pairing) (off : Unknowns) (ev ew : Env) (st : StoreRelOff R off ev
   pub open_here_rel : {h k : Body} (b e : BlockType) {c d : List Instr} → BodyRel R ev.inst ew.inst h k → BlockRel ev.inst ew.inst b e → CodeRel R ev.inst ew.inst c d → ResRel (ActOff R off ev.inst ew.inst) (open_block ev h h.values b c) (open_block ew k k.values e d)
   open_here_rel b e r p c = open_block_rel b e r r.values p c
 
-  -- a loop instruction begins again
+  -- The code to which a branch to a loop leads is that loop instruction, and it is related.
   again_rel : {h k : Inst} (b e : BlockType) (c d : List Instr) → BlockRel h k b e → CodeRel R h k c d → CodeRel R h k (i.Loop b c ∷ []) (i.Loop e d ∷ [])
   again_rel b e c d p q = then (rw (outs-Loop b c, outs-Loop e d) (Related.loop p q)) end
 

@@ -1,4 +1,5 @@
--- Runs of which the second has frames between that only pass results on: one or two of its steps answer a step of the first.
+-- Runs of which the second has frames between that only pass results on: one or two of its steps
+-- answer a step of the first.
 use Rattle.base_lists.proofs.Common.{◌≡◌, ℕ, zero, suc, ◌+◌, ◌≤◌, false, List, [], ◌∷◌, length, None, Some, refl, sym, ap, subst, ◌∙◌, arith, length_rel}
 use Rattle.wasm_tree_spec.specs.Prelude.{ValType}
 use Rattle.base_simulation.specs.Machines.{events_of, state_after}
@@ -18,7 +19,7 @@ use Rattle.index_remap.proofs.Shapes.{IsEnd, Shape, Held, unchanged, perform_rel
 
 -- ---- what passes values on ----
 
--- a frame that passes results on, with these on it
+-- The frame that passes results on, with the results `ws` as its values.
 abbrev holding : Inst → List Val → List ValType → List Val → Frame
 holding inst locals results ws = record (passing inst locals results) { levels = record { values = onto ws []; code = []; gives = length results; takes = length results; back = [] } ∷ [] }
 
@@ -32,7 +33,7 @@ length_onto : (xs ys : List Val) → length (onto xs ys) ≡ length xs + length 
 length_onto [] ys = omega arith
 length_onto (x ∷ xs) ys = let l = length_onto xs (x ∷ ys) in omega (arith, l)
 
--- values of these types that were pushed one after the other are those on top
+-- Values that were pushed one after the other are popped by their types in the same order.
 pub pop_pushed : {ts : List ValType} {ws : List Val} (vs : List Val) → HaveTypes ts ws → pop_typed ts (onto ws vs) ≡ Gives (ws, vs)
 pop_pushed vs related.nil = refl
 pop_pushed vs (related.cons {b = w} typed more) = rw (pop_pushed (w ∷ vs) more, typed) refl
@@ -44,7 +45,7 @@ passes_on t inst locals ts ws ys typed =
 
 -- ---- the runs ----
 
--- below a frame of the run
+-- What follows a step does not depend on the frame that was on top of the run.
 after_past : (r : Run) (f : Frame) (es : List Entry) (o : Outcome Next) → r.entries ≡ Running f ∷ es → run_after r o ≡ run_after (record r { entries = es }) o
 after_past r f es (Gives (Ran s xs)) e = refl
 after_past r f es (Gives (CallsOwn p t vs s xs)) e = refl
@@ -78,7 +79,7 @@ two_events q p o e f = ap (λ (x : Out). cons_option x.1 (cons_option (tick x.0)
 two_states : (q p : Run) (o : Out) → tick q ≡ (p, None) → tick p ≡ o → state_after tick q 2 ≡ o.0
 two_states q p o e f = ap (λ (x : Out). (tick x.0).0) e ∙ ap (λ (x : Out). x.0) f
 
--- to give values is no call
+-- A step that gives values to the entry on top calls no placeholder.
 given_plain : (r : Run) (t : Store) (ws : List Val) (ys : List Entry) → calls_placeholder (Steps r (give t ws ys)) ≡ false
 given_plain r t ws [] = refl
 given_plain r t ws (Running f ∷ ys) = in_levels f.levels
@@ -131,7 +132,8 @@ module _ (R : Pairing) (apart : OneToOne R) where
     abbrev Both : Store → Store → List Entry → List Entry → Type 0
     Both = Held R apart (WithPassing R) between r.phase r.store q.store
 
-    -- a step of each; or the first gives values to what waits below, and the second does so in two steps
+    -- The second run answers a step of the first by one step; or the first gives values to the
+    -- entry below, and the second gives them in two steps.
     data Answer (es fs : List Entry) : Type 0 where
       one : ResRel (NextRel R Both) (step r.store es) (step q.store fs) → Answer es fs
       two : {f g k : Frame} {xs ys : List Entry} {us ws : List Val} → es ≡ Running f ∷ xs → fs ≡ Running g ∷ (Running k ∷ ys) → ListRel (ValRel R) us ws → WithPassing R xs ys → step r.store es ≡ give r.store us xs →
@@ -141,7 +143,7 @@ module _ (R : Pairing) (apart : OneToOne R) where
         ResRel (NextRel R Both) (perform r.store f xs x) (perform q.store g (Running (passing inst locals g.results) ∷ ys) y)
     goes_on inst locals p e a free on = perform_rel R apart (WithPassing R) between r.phase r.store q.store h.store a (unchanged R apart (WithPassing R) between r q h (through p inst locals e)) free (λ ends. absurd (on ends))
 
-    -- the frames on top end: the second's gives its values to the frame that passes them on
+    -- The frames on top end, and the second's gives its values to the frame that passes them on.
     from_ends : {f g : Frame} {vs ws : List Val} {o n : Outcome (List Val × List Val)} {xs ys : List Entry} (inst : Inst) (locals : List Val) → WithPassing R xs ys → act r.store f ≡ Gives (Ends vs) → act q.store g ≡ Gives (Ends ws) → o ≡ pop_typed f.results vs → n ≡ pop_typed g.results ws →
         ResRel (PairRel (ListRel (ValRel R)) (ListRel (ValRel R))) o n → Answer (Running f ∷ xs) (Running g ∷ (Running (passing inst locals g.results) ∷ ys))
     from_ends inst locals e x_is y_is o_is n_is trap = one (rw (x_is, y_is, ← o_is, ← n_is) trap)
@@ -151,7 +153,8 @@ module _ (R : Pairing) (apart : OneToOne R) where
         two refl refl z.first e (ap (λ a. bind a (perform r.store f xs)) x_is ∙ ap (λ p. bind p (λ p. give r.store p.0 xs)) (sym o_is)) (holding inst locals g.results given.0)
         (ap (λ a. bind a (perform q.store g second)) y_is ∙ ap (λ p. bind p (λ p. give q.store p.0 second)) (sym n_is)) (passes_on q.store inst locals g.results given.0 ys (all_at (pop_typed_all g.results ws) (sym n_is)))
 
-    -- what the frames on top come to, where under that of the second another passes its results on
+    -- The second run answers what the frame on top does, where below its own frame another passes
+    -- the results on.
     from_acts : {f g : Frame} {x y : Outcome Act} {xs ys : List Entry} (inst : Inst) (locals : List Val) → FrameRel R f g → WithPassing R xs ys → x ≡ act r.store f → y ≡ act q.store g → ((z : Act) → x ≡ Gives z → NotOpaque R z) → ResRel (ActRel R f.inst g.inst) x y →
         Answer (Running f ∷ xs) (Running g ∷ (Running (passing inst locals g.results) ∷ ys))
     from_acts inst locals p e x_is y_is free trap = one (rw (← x_is, ← y_is) trap)

@@ -1,4 +1,5 @@
--- An instruction without a body keeps its type where each index that it names agrees with its entry, and a block the one of its block type.
+-- An instruction without a body keeps its type where each index that it names agrees with its
+-- entry, and a block the one of its block type.
 use Rattle.base_lists.proofs.Common.{◌≡◌, ℕ, ◌^◌, true, nat_lt, nat_le, List, [], ◌∷◌, Some, sym, ap, ◌∙◌, subst, option_and_then, option_map, slice_get, slice_index, ltb-true, lt-ltb, keeps_map, keeps_then, keeps_only}
 use Rattle.wasm_tree_spec.specs.Prelude.{ValType, BlockType, MemArg, Instr, fold_out-Instr, map-Instr, Block', Loop', If', Return, Call, CallIndirect, LocalGet, LocalSet, LocalTee, GlobalGet, GlobalSet, TableGet, TableSet, Load, Store, MemorySize, MemoryGrow, RefFunc, MemoryInit, DataDrop}
 use Rattle.wasm_tree_spec.specs.Prelude.{MemoryCopy, MemoryFill, TableInit, ElemDrop, TableCopy, TableGrow, TableSize, TableFill, block_operands, map_operands, read_width, store_width}
@@ -13,7 +14,7 @@ use Rattle.index_remap.specs.Agreement.{FuncAgrees, MemoryAgrees, DataAgrees}
 use Rattle.index_remap.proofs.Keeping.{keeps_signature, both_keeps, named_keeps, then_is}
 use Rattle.base_lists.proofs.Bools.{and_keeps}
 
--- an instruction without a body fits where its type acts
+-- An instruction without a body fits two stacks if its type leads from one to the other.
 fits_plain : (c : Context) (i : Instr) (s t : Stack) (e : Effect) → effect_of c i ≡ Some e → Acts e s t → Fits c i s t
 fits_plain c (Block' bt n body) s t e h a = absurd cc
 fits_plain c (Loop' bt n body) s t e h a = absurd cc

@@ -39,7 +39,7 @@ module _ (R : Pairing) (i : Inst) (h : NamesItself R i) where
   abbrev data_segment : (n : ℕ) → AreIndicesRelated R.named DataSegments i.datas i.datas n n
   data_segment = self DataSegments i.datas h.datas
 
-  -- what the layer holds is related to itself
+  -- The code that a layer holds is related to itself.
   abbrev Held : Instr-F Instr → Type 0
   Held (Instr-F.Block b c) = CodeRel R i i c c
   Held (Instr-F.Loop b c) = CodeRel R i i c c

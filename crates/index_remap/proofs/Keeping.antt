@@ -1,4 +1,4 @@
--- What is there stays there, through the words of which the types of instructions are made.
+-- The functions from which the types of instructions are computed keep a result that is present.
 use Rattle.base_lists.proofs.Common.{◌≡◌, Bool, true, false, [], ◌∷◌, Option, Some, None, refl, ap, ◌∙◌, option_and_then}
 use Rattle.wasm_tree_spec.specs.Prelude.{RefType, Ref, FuncType}
 use Rattle.wasm_tree.specs.declared.types.RefType.TheVariants.{Func}

@@ -1,4 +1,5 @@
--- Where whatever is in the code relation is related, the next instruction names related addresses.
+-- If addresses that code may name are related as addresses of stores, the next instruction names
+-- related addresses.
 use Rattle.base_lists.proofs.Common.{ℕ, List, [], ◌∷◌, Option, true, false}
 use Rattle.wasm_tree_spec.specs.Prelude.{Space, Instr}
 use Rattle.wasm_tree.specs.declared.instr.Instr.TheOpen.{Instr-F}

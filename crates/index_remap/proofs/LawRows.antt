@@ -1,5 +1,6 @@
--- The law of steps where it says more than of equal stores: a dropped segment beside an empty one, functions that are not one to one, and a list of functions of
--- which only the types are known. What the steps come to is computed.
+-- The law of steps where it says more than of equal stores: a dropped segment beside an empty one,
+-- functions that are not one to one, and a list of functions of which only the types are known.
+-- What the steps come to is computed.
 use Rattle.base_lists.proofs.Common.{◌≡◌, refl, sym, subst, ◌∙◌, ℕ, zero, suc, List, [], ◌∷◌, Some, None, Bool, true, false, arith, slice_get}
 use Rattle.std.proofs.lemmas.Bool.{true≢false}
 use Rattle.wasm_tree_spec.specs.Prelude.{Space, Types, Functions, Tables, Memories, Globals, ElementSegments, DataSegments, FuncType, Instr}
@@ -26,21 +27,21 @@ nowhere = record { types = []; funcs = []; tables = []; mems = []; globals = [];
 abbrev pub no_store : Store
 no_store = record { funcs = []; tables = []; mems = []; globals = []; elems = []; datas = [] }
 
--- a frame of one level with these values and this code
+-- The frame of one level with these values and this code.
 abbrev pub runs : Inst → List Val → List Instr → Entry
 runs inst values code = Running (record { inst = inst; locals = []; results = []; levels = record { values = values; code = code; gives = 0; takes = 0; back = [] } ∷ [] })
 
 pub no_more : {A : Type 0} → false ≡ true → A
 no_more h = absurd (true≢false (sym h))
 
--- the law of steps, of one entry each, with nothing below
+-- The law of steps, for stacks of one entry each.
 steps_of_one : (R : Pairing) → OneToOneWhereWritten R → ((k : Space) (a b : ℕ) → R.named k a b → R.of k a b) → (s t : Store) (e f : Entry) → StoreRel R s t → EntryRel R e f → TopSkips R s (e ∷ []) →
     ResRel (NextRel R (Above R [] [])) (step s (e ∷ [])) (step t (f ∷ []))
 steps_of_one R apart known s t e f stores entries skip = step_above R apart [] [] stores (cons entries nil) (touches s (e ∷ [])) skip (entries_known R known (e ∷ []) (f ∷ []))
 
 -- ---- a dropped segment beside an empty one ----
 
--- memory 0 and data segment 0, table 0 and element segment 0
+-- The relation of memory 0, data segment 0, table 0 and element segment 0, each to itself.
 abbrev zeros : Space → ℕ → ℕ → Bool
 zeros Memories zero zero = true
 zeros DataSegments zero zero = true
@@ -51,7 +52,7 @@ zeros _ _ _ = false
 abbrev Z : Pairing
 Z = passed zeros zeros []
 
--- only zeros are related
+-- The relation holds of address 0 only.
 only : (k : Space) (a b : ℕ) → Z.of k a b → (a ≡ 0) × (b ≡ 0)
 only Memories zero zero h = (refl, refl)
 only DataSegments zero zero h = (refl, refl)
@@ -75,7 +76,8 @@ zeros_apart = record { right = λ {k} w a b c h j. (only k a b h).1 ∙ sym (onl
 abbrev zeros_in : Inst
 zeros_in = record nowhere { tables = 0 ∷ []; mems = 0 ∷ []; elems = 0 ∷ []; datas = 0 ∷ [] }
 
--- a memory without a page, a table without an entry, and segments without bytes or items, which were dropped or not
+-- The store has a memory without a page, a table without an entry, and segments without bytes or
+-- items, which were dropped or not.
 abbrev with_segments : (dropped : Bool) → Store
 with_segments dropped = record no_store {
   tables = record { ty = reft.Func; most = None; slots = [] } ∷ [];
@@ -116,7 +118,7 @@ segments_related = record {
   datas = λ {a} {b} h. datas_related a b h;
 }
 
--- so many bytes or items of the segment
+-- The operands that copy `n` bytes or items, from place 0 of the segment to place 0.
 abbrev three_numbers : ℕ → List Val
 three_numbers n = Num W32 n ∷ (Num W32 0 ∷ (Num W32 0 ∷ []))
 
@@ -140,7 +142,8 @@ same_items n =
     running (record { locals = nil; results = refl; levels = cons (record { values = cons number (cons number (cons number nil)); code = then (Related.table_init (some refl) (some refl)) end; gives = refl; takes = refl; back = end }) nil }) in
     steps_of_one Z zeros_apart (λ k a b p. p) (with_segments true) (with_segments false) (fills n) (fills n) segments_related e (skips zeros (with_segments true) (fills n ∷ []))
 
--- nothing is copied from either, and one byte or item is past the end of either
+-- A copy of no bytes or items does nothing, whether or not the segment was dropped; a copy of one
+-- byte or item is out of bounds.
 no_byte_is_copied : (dropped : Bool) → step (with_segments dropped) (initialises 0 ∷ []) ≡ Gives (Ran (with_segments dropped) (runs zeros_in [] [] ∷ []))
 unfolding out-Instr denote.Hole.Carrier.out
 no_byte_is_copied dropped = refl
@@ -159,7 +162,7 @@ one_item_traps dropped = refl
 
 -- ---- functions that are not one to one ----
 
--- functions 0 and 1 of the first are both function 0 of the second
+-- The relation of functions 0 and 1 of the first store to function 0 of the second.
 abbrev two_for_one : Space → ℕ → ℕ → Bool
 two_for_one Functions zero zero = true
 two_for_one Functions (suc zero) zero = true
@@ -235,7 +238,7 @@ two_related = record {
   datas = λ h. no_more h;
 }
 
--- a call of the second of the two, and of the one
+-- A call of function 1 in the first store agrees with a call of function 0 in the second.
 two_calls_agree : ResRel (NextRel T (Above T [] [])) (step two_functions (runs in_two [] (i.Call 1 ∷ []) ∷ [])) (step one_function (runs in_one [] (i.Call 0 ∷ []) ∷ []))
 unfolding out-Instr denote.Hole.Carrier.out
 two_calls_agree =
@@ -253,7 +256,7 @@ the_one_is_entered = refl
 
 -- ---- a list of functions ----
 
--- function 0 is on the list: it traps in the first store, and does nothing in the second
+-- Function 0 is on the list: it traps in the first store, and does nothing in the second.
 abbrev zero_alone : Space → ℕ → ℕ → Bool
 zero_alone Functions zero zero = true
 zero_alone _ _ _ = false
@@ -303,11 +306,12 @@ listed_related = record {
   datas = λ h. no_more h;
 }
 
--- a reference to it comes next, and then a call, in whose place the second has two other instructions
+-- The code takes a reference to function 0, drops it and continues with `rest`: a call in the first
+-- store, two other instructions in the second.
 abbrev refers : List Instr → List Instr
 refers rest = i.RefFunc 0 ∷ (i.Drop ∷ rest)
 
--- what the step comes to, where it comes to something, is no such call
+-- The result of a step, if there is one, is no call of a function on the list.
 abbrev NoOpaque : Outcome Act → Type 0
 NoOpaque (Gives x) = NotOpaque L x
 NoOpaque _ = Unit {0}
@@ -323,7 +327,8 @@ a_reference_to_it : (s : Store) (rest : List Instr) → step s (runs in_one [] (
 unfolding out-Instr denote.Hole.Carrier.out
 a_reference_to_it s rest = refl
 
--- of a step that begins a call of it nothing is said: in the first store it traps when it has begun, in the second it goes on
+-- The law says nothing about a step that begins a call of function 0: in the first store it traps
+-- once it has begun, in the second the two instructions do nothing.
 it_traps_when_it_has_begun : step it_traps (runs in_one [] (i.Unreachable ∷ []) ∷ (runs in_one [] [] ∷ [])) ≡ Traps
 unfolding out-Instr denote.Hole.Carrier.out
 it_traps_when_it_has_begun = refl

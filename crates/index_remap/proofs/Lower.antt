@@ -1,10 +1,11 @@
--- Stacks with the bottom in place of some operands: what leads on from a stack leads on from such a one, and from one with more below it.
+-- Stacks with operands of unknown type in place of some operands: an instruction that fits a stack
+-- fits such a stack, and also a stack with more operands below.
 use Rattle.base_lists.proofs.Common.{◌≡◌, List, [], ◌∷◌, ◌++◌, map, reverse, Some, None, refl, sym, ap, ◌∙◌, subst, append_assoc, append_rel}
 use Rattle.wasm_tree_spec.specs.Prelude.{ValType, I32, Instr, Block', Loop', If'}
 use Rattle.wasm_valid_bodies.specs.Typing.{Operand, Stack, Matches, AllMatch, EachMatches, operands, IsReference, Effect, Gives, Leaves, Drops, Selects, TestsNull, Branches, Acts, Context, Fits, LeadsAll}
 use Rattle.index_remap.specs.Prelude.{ListRel, nil, cons}
 
--- as many operands, each of which matches the other's
+-- A stack is lower than another if it has as many operands and each matches the other's.
 abbrev pub Lower : Stack → Stack → Type 0
 Lower = ListRel Matches
 
@@ -42,13 +43,13 @@ lower_each : {s t : Stack} (ls : List (List ValType)) → Lower s t → EachMatc
 lower_each [] l h = tt
 lower_each (ts ∷ ls) l h = (lower_match (reverse ts) l h.0, lower_each ls l h.1)
 
--- the two parts of a stack, where it is lower than one of two parts
+-- A stack that is lower than one of two parts has two parts, each lower than its counterpart.
 lower_split : (s args rest : Stack) → Lower s (args ++ rest) → (a r : Stack) × (s ≡ a ++ r) × Lower a args × Lower r rest
 lower_split s [] rest l = ([], s, refl, nil, l)
 lower_split [] (y ∷ args) rest l = elim l [ ]
 lower_split (x ∷ s) (y ∷ args) rest (cons p l) = let (a, r, e, f, g) = lower_split s args rest l in (x ∷ a, r, ap (λ z. x ∷ z) e, cons p f, g)
 
--- operands that match types are lower than those
+-- Operands that match types are lower than these types.
 pub match_lower : (s : Stack) (ts : List ValType) → AllMatch s ts → Lower s (map Some ts)
 match_lower [] [] h = nil
 match_lower [] (t ∷ ts) h = absurd h
@@ -90,7 +91,7 @@ acts_lower (Branches ls) s t r l (x, args, rest, e, hx, h) = branched r (subst (
         let (a, b, f, q, o) = lower_split v args rest k in
         (t, (y, a, b, ap (λ z. y ∷ z) f, matches_on y x (Some I32) p hx, lower_each ls q h), lower_self t)
 
--- with more below
+-- An instruction acts alike on a stack with more operands below.
 pub acts_over : (e : Effect) (s t z : Stack) → Acts e s t → Acts e (s ++ z) (t ++ z)
 acts_over (Gives ps rs) s t z (args, rest, e, h, g) =
     (args, rest ++ z, ap (λ x. x ++ z) e ∙ append_assoc args rest z, h, ap (λ x. x ++ z) g ∙ append_assoc (operands rs) rest z)

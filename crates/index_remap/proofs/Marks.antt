@@ -13,19 +13,20 @@ joined : {X : Type 0} (f : X → List ℕ) (xs : List X) → flat_map (λ ys. ys
 joined f [] = refl
 joined f (x ∷ xs) = ap (λ ys. f x ++ ys) (joined f xs)
 
--- the step over a body
+-- The invariant of the marks is kept from one instruction of a body to the next.
 pub body_step : (xs : List Instr) (i : ℕ) (x : Instr) (marks new : List Bool) → i < length xs → x ≡ get_or xs i x → new ≡ marked_all marks (refs x) →
     marked_all new (refs_all (drop (i + 1) xs)) ≡ marked_all marks (refs_all (drop i xs))
 body_step xs i x marks new lt is e =
     ap (marked_all new) (joined refs (drop (i + 1) xs)) ∙ segment_step refs xs i x marks new lt is e ∙ ap (marked_all marks) (sym (joined refs (drop i xs)))
 
--- the type of a block names no function
+-- The type of a block names no function.
 no_refs : (ty : BlockType) (xs : List ℕ) → filter_map referred (block_operands ty) ++ xs ≡ xs
 no_refs block.Empty xs = refl
 no_refs (block.Value t) xs = refl
 no_refs (block.Index n) xs = refl
 
--- the body of a block or loop, and both bodies of an `if`, one after the other
+-- The marks of a block or loop are those of its body, and those of an `if` are those of both
+-- bodies, one after the other.
 pub block_marks : (i : Instr) (ty : BlockType) (body is : List Instr) (old new : List Bool) → i ≡ Block ty body → is ≡ body → new ≡ marked_all old (refs_all is) → new ≡ marked_all old (refs i)
 block_marks i ty body is old new e f a =
     let inside : refs (Block ty body) ≡ filter_map referred (block_operands ty) ++ refs_all body = search (rules, the_lemmas) in
@@ -43,7 +44,7 @@ if_marks i ty body other is os old one new e f g a b =
     b ∙ ap₂ (λ ms xs. marked_all ms (refs_all xs)) (a ∙ ap (λ xs. marked_all old (refs_all xs)) f) g ∙ sym (marked_append old (refs_all body) (refs_all other))
     ∙ ap (marked_all old) (sym (ap refs e ∙ inside ∙ no_refs ty (refs_all body ++ refs_all other)))
 
--- the step over the functions
+-- The invariant of the marks is kept from one function to the next.
 pub func_step : (xs : List Func) (i : ℕ) (x : Func) (marks new : List Bool) → i < length xs → x ≡ get_or xs i x → new ≡ marked_all marks (refs_all x.body) →
     marked_all new (body_refs (drop (i + 1) xs)) ≡ marked_all marks (body_refs (drop i xs))
 func_step = segment_step (λ f. refs_all f.body)
@@ -77,7 +78,7 @@ filter_more p a n = let one : n + 1 ≡ suc n = omega arith in ap (λ k. filter 
         split true = refl
         split false = refl
 
--- the marks say which functions are named
+-- The marks say which functions are named.
 pub marked_are : (n : ℕ) (rs qs : List ℕ) → filter (marked_only (named_from rs 0 n) (named_from qs 0 n)) (range_with_len 0 n) ≡ filter (λ f. is_among rs f && not (is_among qs f)) (range_with_len 0 n)
 marked_are n rs qs =
     filter_same (marked_only (named_from rs 0 n) (named_from qs 0 n)) (λ f. is_among rs f && not (is_among qs f)) 0 n
@@ -94,14 +95,15 @@ items_more p i =
     one true = refl
     one false = refl
 
--- one more function, which is to be declared, or isn't
+-- The items collected up to a function, and that function if it is to be declared, are the items
+-- collected after it.
 pub item_kept : (p : ℕ → Bool) (i : ℕ) (items new : List ConstExpr) → items ≡ map const.Func (filter p (range_with_len 0 i)) → p i ≡ true → new ≡ items ++ const.Func i ∷ [] → new ≡ map const.Func (filter p (range_with_len 0 (i + 1)))
 item_kept p i items new e h f = f ∙ ap₂ (λ xs b. xs ++ cond b (const.Func i ∷ []) []) e (sym h) ∙ sym (items_more p i)
 
 pub item_left : (p : ℕ → Bool) (i : ℕ) (items new : List ConstExpr) → items ≡ map const.Func (filter p (range_with_len 0 i)) → p i ≡ false → new ≡ items → new ≡ map const.Func (filter p (range_with_len 0 (i + 1)))
 item_left p i items new e h f = f ∙ e ∙ sym (append-nil (map const.Func (filter p (range_with_len 0 i)))) ∙ ap (λ b. map const.Func (filter p (range_with_len 0 i)) ++ cond b (const.Func i ∷ []) []) (sym h) ∙ sym (items_more p i)
 
--- the items are those of the functions that are to be declared
+-- The items are those of the functions that are to be declared.
 pub items_are : (n m : ℕ) (rs qs : List ℕ) (inside outside : List Bool) (items : List ConstExpr) → inside ≡ named_from rs 0 n → outside ≡ named_from qs 0 n → n ≡ m →
     items ≡ map const.Func (filter (marked_only inside outside) (range_with_len 0 (length inside))) → items ≡ map const.Func (filter (λ f. is_among rs f && not (is_among qs f)) (range_with_len 0 m))
 items_are n m rs qs inside outside items e f g h =

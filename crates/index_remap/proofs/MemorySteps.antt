@@ -10,7 +10,7 @@ use Rattle.base_lists.specs.Related.{PairRel}
 use Rattle.index_remap.proofs.ValueSteps.{bind_num, values_rel, on_values_rel, pushes_rel}
 
 module _ (R : Pairing) (off : Unknowns) (ev ew : Env) (st : StoreRelOff R off ev.store ew.store) where
-  -- equal memories at related addresses
+  -- Related addresses hold equal memories, so that continuations that agree on these agree.
   bind_memory : {B C : Type 0} {Q : B → C → Type 0} {h k : Body} (n m : ℕ) (f : ℕ → Memory → Outcome B) (g : ℕ → Memory → Outcome C) → BodyRel R ev.inst ew.inst h k → AreIndicesRelated R.of Memories ev.inst.mems ew.inst.mems n m →
       ((a b : ℕ) (x : Memory) → R.of Memories a b → ResRel Q (f a x) (g b x)) → ResRel Q (with_memory ev n f) (with_memory ew m g)
   bind_memory {Q = Q} n m f g r p q =
@@ -42,7 +42,8 @@ module _ (R : Pairing) (off : Unknowns) (ev ew : Env) (st : StoreRelOff R off ev
   three_rel : {vs ws : List Val} → ListRel (ValRel R) vs ws → ResRel (PairRel (◌≡◌ {A = ℕ × ℕ × ℕ}) (ListRel (ValRel R))) (pop_three vs) (pop_three ws)
   three_rel r = bind_num R W32 _ _ r (λ n _ _ r. bind_num R W32 _ _ r (λ s _ _ r. bind_num R W32 _ _ r (λ d _ _ r. done (record { first = refl; second = r }))))
 
-  -- the same three numbers on top of both
+  -- Related values have the same three numbers on top, so that continuations that agree on these
+  -- agree.
   pub bind_three_is : {C D : Type 0} {Q : C → D → Type 0} {vs ws : List Val} (f : (ℕ × ℕ × ℕ) × List Val → Outcome C) (g : (ℕ × ℕ × ℕ) × List Val → Outcome D) → ListRel (ValRel R) vs ws →
       ((n : ℕ × ℕ × ℕ) (xs ys : List Val) → pop_three vs ≡ Gives (n, xs) → ListRel (ValRel R) xs ys → ResRel Q (f (n, xs)) (g (n, ys))) → ResRel Q (bind (pop_three vs) f) (bind (pop_three ws) g)
   bind_three_is {Q = Q} f g r h = bind_rel_is (three_rel r) (λ a b is p. subst (λ z. ResRel Q (f a) (g (z, b.1))) p.first (h a.0 a.1 b.1 is p.second))

@@ -1,4 +1,5 @@
--- Code in which no call is replaced: it is the body with other indices. And tests of layers of which one follows from another.
+-- Code in which no call is replaced is the body with other indices; and a test of all layers of
+-- code follows from a stronger test.
 use Rattle.base_lists.proofs.Common.{List, [], ◌∷◌, refl, ap}
 use Rattle.wasm_tree_spec.specs.Prelude.{FuncType, Instr, out-Instr, Row_of-Instr, items-the_row-Instr, end_of-Instr, more_of-Instr, Block', Loop', If', Call, Operand, operands, Layers, RowLayers, ListLayers}
 use Rattle.wasm_tree.specs.declared.instr.Instr.TheOpen.{Instr-F}
@@ -41,7 +42,7 @@ module _ (P Q : Instr-F Instr → Type 0) (k : (l : Instr-F Instr) → P l → Q
   all_follow [] h = tt
   all_follow (o ∷ os) h = (layers_follow o h.0, all_follow os h.1)
 
--- the same of what is so of each operand
+-- A test of all operands of code follows from a stronger test of operands.
 pub operands_follow : (P Q : Operand → Type 0) → ((o : Operand) → P o → Q o) → (os : List Instr) → ListLayers (λ l. Every P (operands l)) os → ListLayers (λ l. Every Q (operands l)) os
 operands_follow P Q k = all_follow (λ l. Every P (operands l)) (λ l. Every Q (operands l)) (λ l. each (operands l))
   where

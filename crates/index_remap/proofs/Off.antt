@@ -4,7 +4,7 @@ use Rattle.wasm_meaning.specs.Prelude.{RefVal, split_at, slice, overwrite}
 use Rattle.index_remap.specs.Prelude.{Pairing, OptRel, none, some, ListRel, nil, cons, RefRel, RefsOff}
 
 module _ (R : Pairing) (known : ℕ → Bool) where
-  -- from this place on
+  -- Two lists are related but at unknown places, where the first item has the place `from`.
   data Off : ℕ → List RefVal → List RefVal → Type 0 where
     off_nil : {from : ℕ} → Off from [] []
     off_cons : {from : ℕ} {x y : RefVal} {xs ys : List RefVal} → (known from ≡ true → RefRel R x y) → Off (suc from) xs ys → Off from (x ∷ xs) (y ∷ ys)
@@ -37,12 +37,12 @@ module _ (R : Pairing) (known : ℕ → Bool) where
   of_off : {xs ys : List RefVal} → Off 0 xs ys → RefsOff R known xs ys
   of_off r = record { size = off_length r; each = λ n k. at_place r n (known_at (0 + n) n (omega arith) k) }
 
-  -- what is related is so at each place
+  -- Lists that are related at every place are related but at unknown places.
   any_off : {xs ys : List RefVal} (from : ℕ) → ListRel (RefRel R) xs ys → Off from xs ys
   any_off from nil = off_nil
   any_off from (cons p r) = off_cons (λ _. p) (any_off (suc from) r)
 
-  -- and what is known at each place is related
+  -- Lists of which every place is known are related at every place.
   all_known : {from : ℕ} {xs ys : List RefVal} → Off from xs ys → ((n : ℕ) → from ≤ n → n < from + length xs → known n ≡ true) → ListRel (RefRel R) xs ys
   all_known off_nil h = nil
   all_known {from} (off_cons p r) h = cons (p (h from (omega arith) (omega arith))) (all_known r (λ n a b. h n (omega (arith, a)) (omega (arith, b))))
@@ -51,7 +51,7 @@ module _ (R : Pairing) (known : ℕ → Bool) where
   append_off {from} {xs = xs} {ys = ys} m off_nil e r = subst (λ n. Off n xs ys) (let same : m ≡ from = omega (arith, e) in same) r
   append_off m (off_cons p s) e r = off_cons p (append_off m s (omega (arith, e)) r)
 
-  -- the first so many, and what comes after them
+  -- The first `n` items are related but at unknown places, and so are the items after these.
   record SplitOff (from n : ℕ) (p q : List RefVal × List RefVal) : Type 0 where
     first : Off from p.0 q.0
     many : length p.0 ≡ n
@@ -63,13 +63,13 @@ module _ (R : Pairing) (known : ℕ → Bool) where
   split_off {from} (suc n) (off_cons p r) =
       then_rel (split_off n r) (λ a b q. some (record { first = off_cons p q.first; many = ap suc q.many; second = subst (λ m. Off m a.1 b.1) (let same : suc from + n ≡ from + suc n = omega arith in same) q.second }))
 
-  -- a range in which all is known is related
+  -- A range of which every place is known is related.
   pub slice_off : {xs ys : List RefVal} (place n : ℕ) → RefsOff R known xs ys → ((m : ℕ) → place ≤ m → m < place + n → known m ≡ true) → OptRel (ListRel (RefRel R)) (slice xs place n) (slice ys place n)
   slice_off place n r h =
       then_rel (split_off place (to_off r)) (λ _ _ p. then_rel (split_off n p.second) (λ a b q. some (all_known q.first (λ m l k.
       let many = q.many in h m (omega (arith, l)) (omega (arith, k, many))))))
 
-  -- what is written there is related
+  -- Related references that are written into both lists leave them related but at unknown places.
   pub overwrite_off : {xs ys vs ws : List RefVal} (place : ℕ) → RefsOff R known xs ys → ListRel (RefRel R) vs ws → OptRel (RefsOff R known) (overwrite xs place vs) (overwrite ys place ws)
   overwrite_off {vs = vs} {ws = ws} place r s =
       then_rel (split_off place (to_off r)) (λ a b p.

@@ -1,11 +1,11 @@
--- Related changes leave what has no partner, in either store.
+-- Related changes leave what has no partner as it is, in either store.
 use Rattle.base_lists.proofs.Common.{◌≡◌, ℕ, List, refl, subst, ◌∙◌, slice_set, slice_get, sym, set_other}
 use Rattle.wasm_tree_spec.specs.Prelude.{Space, Tables, Memories, Globals, ElementSegments, DataSegments}
 use Rattle.wasm_meaning.specs.Prelude.{Table, Memory, Global, Store, Change, Keep, SetGlobal, SetMemory, SetTable, DropElem, DropData, changed, no_items, no_bytes}
 use Rattle.index_remap.specs.Prelude.{Pairing, ChangeRel, turned, HasNoPartner, KeepsOthers}
 use Rattle.index_remap.specs.Related as related
 
--- the change is at an address of the second store that has a partner
+-- The change is at an address of the second store that has a partner.
 pub data Partnered (R : Pairing) : Change → Type 0 where
   keep : Partnered R Keep
   set_global : {a b : ℕ} {g : Global} → R.of Globals a b → Partnered R (SetGlobal b g)
@@ -31,7 +31,7 @@ module _ (R : Pairing) where
   first_partnered (related.drop_elem r) = drop_elem r
   first_partnered (related.drop_data r) = drop_data r
 
-  -- an address that has a partner is not one that has none
+  -- A write at an address with a partner leaves what is at an address without one.
   elsewhere : {A : Type 0} (k : Space) (xs : List A) (a b : ℕ) (v : A) (c : ℕ) → R.of k a b → HasNoPartner R k c → slice_get (slice_set xs b v) c ≡ slice_get xs c
   elsewhere k xs a b v c r h = set_other xs b c v (λ e. h a (subst (λ x. R.of k a x) (sym e) r))
 
@@ -43,6 +43,6 @@ module _ (R : Pairing) where
   change_keeps {s = s} (drop_elem {a = a} {b = b} r) h = record { funcs = h.funcs; tables = h.tables; mems = h.mems; globals = h.globals; datas = h.datas; elems = λ c n. elsewhere ElementSegments s.elems a b no_items c r n ∙ h.elems c n }
   change_keeps {s = s} (drop_data {a = a} {b = b} r) h = record { funcs = h.funcs; tables = h.tables; mems = h.mems; globals = h.globals; elems = h.elems; datas = λ c n. elsewhere DataSegments s.datas a b no_bytes c r n ∙ h.datas c n }
 
--- nothing was changed yet
+-- A store that is not changed keeps what has no partner.
 pub none_changed : (R : Pairing) (s : Store) → KeepsOthers R s s
 none_changed R s = record { funcs = refl; tables = λ b h. refl; mems = λ b h. refl; globals = λ b h. refl; elems = λ b h. refl; datas = λ b h. refl }

@@ -45,7 +45,7 @@ module _ (R : Pairing) where
   received_all_rel [] (x ∷ xs) o s = none
   received_all_rel (t ∷ ts) [] o s = none
 
--- what is received has the type
+-- A value that is received has the type that was asked for.
 received_type : (o : Owned) (ms : List ℕ) (t : ValType) (x : Shown) → IfThere (λ v. typed t v ≡ Gives v) (received o ms t x)
 received_type o ms valt.I32 (Number n) = either_all (nat_lt n (2 ^ 32)) (present refl) absent
 received_type o ms valt.I64 (Number n) = either_all (nat_lt n (2 ^ 64)) (present refl) absent

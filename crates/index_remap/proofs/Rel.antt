@@ -18,23 +18,24 @@ bind_rel (done q) h = h _ _ q
 pub bind_eq : {A C D : Type 0} {Q : C → D → Type 0} {f : A → Outcome C} {g : A → Outcome D} {o p : Outcome A} → o ≡ p → ((a : A) → ResRel Q (f a) (g a)) → ResRel Q (bind o f) (bind p g)
 bind_eq {Q = Q} {f = f} {g = g} {o = o} e h = subst (λ x. ResRel Q (bind o f) (bind x g)) e (bind_same o h)
 
--- with what the first came to
+-- The same for continuations that agree on the result of the first outcome.
 pub bind_rel_is : {A B C D : Type 0} {P : A → B → Type 0} {Q : C → D → Type 0} {o : Outcome A} {p : Outcome B} {f : A → Outcome C} {g : B → Outcome D} → ResRel P o p → ((a : A) (b : B) → o ≡ Gives a → P a b → ResRel Q (f a) (g b)) → ResRel Q (bind o f) (bind p g)
 bind_rel_is trap h = trap
 bind_rel_is wrong h = wrong
 bind_rel_is (done q) h = h _ _ refl q
 
--- what was found on both sides, where none is ill typed
+-- Two look-ups, of which a failure is ill typed, are followed by continuations that agree on what
+-- was found.
 pub bind_found : {A B C D : Type 0} {P : A → B → Type 0} {Q : C → D → Type 0} {o : Option A} {p : Option B} {f : A → Outcome C} {g : B → Outcome D} → OptRel P o p → ((a : A) (b : B) → P a b → ResRel Q (f a) (g b)) → ResRel Q (bind (or_ill_typed o) f) (bind (or_ill_typed p) g)
 bind_found none h = wrong
 bind_found (some q) h = h _ _ q
 
--- with what the first found
+-- The same for continuations that agree on what the first look-up found.
 pub bind_found_is : {A B C D : Type 0} {P : A → B → Type 0} {Q : C → D → Type 0} {o : Option A} {p : Option B} {f : A → Outcome C} {g : B → Outcome D} → OptRel P o p → ((a : A) (b : B) → o ≡ Some a → P a b → ResRel Q (f a) (g b)) → ResRel Q (bind (or_ill_typed o) f) (bind (or_ill_typed p) g)
 bind_found_is none h = wrong
 bind_found_is (some q) h = h _ _ refl q
 
--- the same was found, with what it is
+-- The same for equal look-ups, with the value that was found.
 pub bind_is : {A C D : Type 0} {Q : C → D → Type 0} {f : A → Outcome C} {g : A → Outcome D} {o p : Option A} → o ≡ p → ((a : A) → o ≡ Some a → ResRel Q (f a) (g a)) → ResRel Q (bind (or_ill_typed o) f) (bind (or_ill_typed p) g)
 bind_is {Q = Q} {f = f} {g = g} {o = o} e h = subst (λ x. ResRel Q (bind (or_ill_typed o) f) (bind (or_ill_typed x) g)) e (go o h)
   where
@@ -54,11 +55,12 @@ any (Gives a) = just tt
 
 -- ---- a write at related addresses ----
 
--- what is one to one is so where something is written
+-- A relation that is one to one is so in the index spaces that are written.
 pub written : {R : Pairing} → OneToOne R → OneToOneWhereWritten R
 written apart = record { right = λ _. apart.right; left = λ _. apart.left }
 
--- Q holds at the addresses that are written, and follows from P at all others
+-- Related lists stay related by Q after a write at related addresses, if Q holds of what is written
+-- and follows from P at all other addresses.
 module _ (R : Pairing) (apart : OneToOneWhereWritten R) (k : Space) (may : is_written k ≡ true) {A B : Type 0} (P Q : ℕ → A → B → Type 0) (xs : List A) (ys : List B) (v : A) (w : B) where
   pub write_each : {a b : ℕ} → R.of k a b → ((c d : ℕ) → R.of k c d → BothRel (P c) (slice_get xs c) (slice_get ys d)) → ((c : ℕ) (x : A) (y : B) → (a ≡ c → ⊥) → P c x y → Q c x y) → Q a v w →
       (c d : ℕ) → R.of k c d → BothRel (Q c) (slice_get (slice_set xs a v) c) (slice_get (slice_set ys b w) d)

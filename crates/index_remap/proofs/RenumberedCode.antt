@@ -1,4 +1,5 @@
--- Code with other indices, in which code stands in place of calls of listed functions, is related to what it was.
+-- Code is related to the same code with other indices, in which other code stands in place of calls
+-- of listed functions.
 use Rattle.base_lists.proofs.Common.{◌≡◌, ℕ, List, [], ◌∷◌, ◌++◌, Bool, true, false, ◌&&◌, refl, sym, subst}
 use Rattle.base_lists.specs.Members.{is_among}
 use Rattle.wasm_tree_spec.specs.Prelude.{FuncType, BlockType, Instr, fold_out-Instr, map-Instr, Row_of-Instr, end_of-Instr, more_of-Instr, items-the_row-Instr, items_shown-the_row-Instr-0, Block, Block', Loop, Loop', If, If', Call, Space, Functions, block_operands, map_operands, Layers, RowLayers}
@@ -17,7 +18,7 @@ use Rattle.index_remap.specs.Prelude.{ReplacementCodesFit}
 use Rattle.index_remap.proofs.NotOpaque.{operands_follow, unlisted_renumbered}
 
 module _ (R : Pairing) (m : Remap) (x y : Inst) where
-  -- it holds no other instructions
+  -- The instruction holds no other instructions.
   abbrev HoldsNone : Instr-F Instr → Type 0
   HoldsNone (Instr-F.Block b c) = ⊥
   HoldsNone (Instr-F.Loop b c) = ⊥
@@ -72,7 +73,7 @@ module _ (R : Pairing) (m : Remap) (x y : Inst) where
   plain_rel : (o : Instr) → HoldsNone (out-Instr o) → LayerNames R m x y (out-Instr o) → OpRel R x y false (out-Instr o) (out-Instr (renumbered m o))
   plain_rel o h n = rw (fold_out-Instr Instr (map_operands (entry m)) o) (layer_rel (out-Instr o) h n)
 
-  -- one instruction before the rest
+  -- Related instructions in front of related code make related code.
   one_rel : (o p : Instr) (code c d : List Instr) → code ≡ p ∷ [] → OpRel R x y false (out-Instr o) (out-Instr p) → CodeRel R x y c d → CodeRel R x y (o ∷ c) (code ++ d)
   one_rel o p code c d e h k = subst (λ z. CodeRel R x y (o ∷ c) (z ++ d)) (sym e) (then h k)
 
@@ -82,7 +83,7 @@ module _ (R : Pairing) (m : Remap) (x y : Inst) where
     block_rel (bt.Value t) n = value
     block_rel (bt.Index k) n = indexed n.0
 
-    -- a call of a function that is on the list, or not
+    -- A call is related to what stands in its place, whether or not its function is on the list.
     call_rel : (f : ℕ) (b : Bool) → b ≡ is_among listed f → (labels : Labels) (code c d : List Instr) → OtherNamed R m b x y Functions f → CallReplaced m b codes labels f code → CodeRel R x y c d →
         CodeRel R x y (Call f ∷ c) (code ++ d)
     unfolding out-Instr denote.Hole.Carrier.out
@@ -115,7 +116,7 @@ module _ (R : Pairing) (m : Remap) (x y : Inst) where
     replaced_rel labels [] js q k = subst (CodeRel R x y []) (sym k) end
     replaced_rel labels (o ∷ os) js q (code, rest, k, z, e) = subst (CodeRel R x y (o ∷ os)) (sym e) (stands_rel labels o code os rest q.0 k (replaced_rel labels os rest q.1 z))
 
--- with no function on the list each index names what it named
+-- If no function is on the list, each index names what its entry names.
 named_other : (R : Pairing) (m : Remap) (x y : Inst) (called : Bool) (space : Space) (n : ℕ) → EntryNames R m x y space n → OtherNamed R m (called && is_among [] n) x y space n
 named_other R m x y true space n h = h
 named_other R m x y false space n h = h

@@ -1,4 +1,5 @@
--- Small code in which calls are replaced: what replaces what, and that a body stays well typed where a branch to a label around the call stands in its place.
+-- Small code in which calls are replaced: what replaces what, and that a body stays well typed
+-- where a branch to a label around the call stands in its place.
 use Rattle.base_lists.proofs.Common.{◌≡◌, ℕ, List, [], ◌∷◌, zero, suc, Option, Some, None, refl, sym, ap, subst, arith, rules, true≢false, Contains}
 use Rattle.wasm_tree_spec.specs.Prelude.{FuncType, Instr, end_of-Instr, more_of-Instr, the_lemmas, Block, Block', Br, Call, CallIndirect, LocalGet, Nop, ListLayers}
 use Rattle.wasm_tree.specs.declared.types.BlockType.TheVariants as bt
@@ -12,7 +13,8 @@ use Rattle.index_remap.proofs.Replacing.{replaced_typed}
 the_only : {A : Type 0} (x : A) → Contains (x ∷ []) x
 the_only x = (0, omega arith, refl)
 
--- function 0 is called through table 1 instead, and function 1 becomes 5; the entry of function 0 is of no use
+-- Function 0 is called through table 1, and function 1 becomes function 5; the entry of function 0
+-- is not used.
 abbrev moved : Remap
 moved = record { types = []; funcs = 9 ∷ 5 ∷ []; tables = []; mems = []; globals = []; elems = []; datas = [] }
 
@@ -45,12 +47,12 @@ a_call_in_a_block = (
 
 -- ---- code that branches ----
 
--- one function, of type [] to []
+-- The context has one function, of type [] to [].
 abbrev one_function : Context
 one_function =
     record { types = record { params = []; results = [] } ∷ []; funcs = 0 ∷ []; tables = []; memories = 0; globals = []; elems = []; datas = 0; named = []; locals = []; results = []; labels = [] }
 
--- where the innermost label takes nothing, a branch to it may replace a call
+-- A branch to the innermost label may replace a call if that label takes nothing.
 abbrev branching : Codes
 branching [] f = []
 branching ([] ∷ ls) f = (Br 0 ∷ []) ∷ []
@@ -60,7 +62,7 @@ abbrev the_type : Option FuncType → FuncType
 the_type None = record { params = []; results = [] }
 the_type (Some t) = t
 
--- a branch to such a label has the type of the function
+-- A branch to a label that takes nothing has the type of the function.
 branch_typed : (ls : Labels) (f : ℕ) (t : FuncType) → func_type one_function f ≡ Some t → WellTyped (labelled one_function ([] ∷ ls)) (Br 0 ∷ []) t.params t.results
 branch_typed ls zero t e = subst (λ u. WellTyped (labelled one_function ([] ∷ ls)) (Br 0 ∷ []) u.params u.results) (ap the_type e) ([], ([], (Leaves [], refl, ([], [], refl, tt)), refl), tt)
 branch_typed ls (suc f) t e = cc
@@ -74,7 +76,7 @@ branches_have_the_type ((u ∷ us) ∷ ls) f code l h t g = absurd (no_element h
 branches_have_the_type ([] ∷ ls) f code l (zero, h, e) t g = subst (λ c. WellTyped (labelled one_function ([] ∷ ls)) c t.params t.results) e (branch_typed ls f t g)
 branches_have_the_type ([] ∷ ls) f code l (suc k, h, e) t g = absurd (omega (arith, h))
 
--- a call in a block, and a branch out of the block in its place
+-- A block with a call in it, and then the block with a branch out of it in place of the call.
 abbrev called : List Instr
 called = Block' bt.Empty (_ ∷ []) (more_of-Instr (Call 0) end_of-Instr) ∷ []
 
@@ -92,7 +94,8 @@ others_agree : ListLayers (OthersAgree moved (0 ∷ []) one_function one_functio
 unfolding out-Instr denote.Hole.Carrier.out
 others_agree = ((λ _. subst (LayerAgrees moved one_function one_function) (sym (outs-Block' bt.Empty (_ ∷ []) (more_of-Instr (Call 0) end_of-Instr))) tt, (λ e. absurd (true≢false e), tt)), tt)
 
--- by the law, which asks for the type only under labels where the code may stand
+-- The law shows that the branch is well typed: it asks for the type of the code only under labels
+-- where the code may stand.
 the_branch_is_well_typed : WellTyped one_function branched [] []
 the_branch_is_well_typed =
     replaced_typed moved (0 ∷ []) branching one_function one_function called branched [] [] (record { locals = refl; results = refl; labels = refl }) others_agree branches_have_the_type a_branch_stands_for_the_call the_call_is_well_typed

@@ -15,19 +15,19 @@ use Rattle.index_remap.proofs.Instructions.{plain_kept, type_kept}
 use Rattle.index_remap.proofs.Keeping.{then_is}
 use Rattle.index_remap.proofs.Lower.{Lower, lower_self, lower_on, lower_match, match_lower, fits_lower, leads_lower, leads_over, leads_on}
 
--- the type of a call is that of its function
+-- The type of a call is that of its function.
 call_type : (o : Option FuncType) (e : Effect) → gives_of (signature_in o) ≡ Some e → (t : FuncType) × (o ≡ Some t) × (Gives t.params t.results ≡ e)
 call_type None e h = cc
 call_type (Some t) e h = (t, refl, cc)
 
--- code of a type leads on from a stack that is lower than one on which the type acts
+-- Code of a type leads on from any stack that is lower than one on which the type acts.
 code_leads : (c : Context) (code : List Instr) (ps rs : List ValType) (s t r : Stack) → WellTyped c code ps rs → Acts (Gives ps rs) s t → Lower r s → (u : Stack) × LeadsAll c code r u × Lower u t
 code_leads c code ps rs s t r (last, l, a) (args, rest, e, h, g) k =
     let low : Lower r (operands ps ++ rest) = lower_on (subst (Lower r) e k) (append_rel (match_lower args (reverse ps) h) (lower_self rest)) in
     let (u, p, q) = leads_lower c code (operands ps ++ rest) (last ++ rest) r low (leads_over c code (operands ps) last rest l) in
     (u, p, subst (Lower u) (sym g) (lower_on q (append_rel (match_lower last (reverse rs) a) (lower_self rest))))
 
--- an instruction leads on from a lower stack
+-- An instruction that fits a stack leads on from any lower stack.
 one_leads : (c : Context) (i : Instr) (code : List Instr) (s t r : Stack) → code ≡ i ∷ [] → Fits c i s t → Lower r s → (u : Stack) × LeadsAll c code r u × Lower u t
 one_leads c i code s t r e h k =
     let (u, f, l) = fits_lower c i s t r k h in
@@ -36,35 +36,37 @@ one_leads c i code s t r e h k =
 both_lead : (c : Context) (is js ks : List Instr) (s u t v : Stack) → ks ≡ is ++ js → LeadsAll c is s u → Lower v t → LeadsAll c js u v → (w : Stack) × LeadsAll c ks s w × Lower w t
 both_lead c is js ks s u t v e h l k = (v, subst (λ z. LeadsAll c z s v) (sym e) (leads_on c is js s u v h k), l)
 
--- what leads on lower than to operands that match the results
+-- Code is well typed if it leads on to a stack that is lower than operands that match the results.
 lower_ends : (c : Context) (js : List Instr) (last : Stack) (ps rs : List ValType) → AllMatch last (reverse rs) → (u : Stack) × LeadsAll c js (operands ps) u × Lower u last → WellTyped c js ps rs
 lower_ends c js last ps rs a (u, l, k) = (u, l, lower_match (reverse rs) k a)
 
--- code leads on in a block as it does alone
+-- Code leads on as the contents of a block if it leads on as a list of instructions.
 block_leads : (d : Context) (js : List Instr) (s t : Stack) → LeadsAll d js s t → Leads d (hidden-the_row-Instr-0 js) s t
 unfolding hidden-the_row-Instr-0 denote.Hole.Carrier.hidden
 block_leads d [] s t h = h
 block_leads d (j ∷ js) s t (u, f, h) = (u, f, block_leads d js u t h)
 
--- the same for what a block holds
+-- Code in place of the contents of a block leads to its results if it leads on from every lower
+-- stack.
 row_ends : {n : _} (c d : Context) (is : Row_of-Instr n) (js : List Instr) (ps rs : List ValType) → ((s t r : Stack) → Leads c is s t → Lower r s → (u : Stack) × LeadsAll d js r u × Lower u t) →
     LeadsToMatch (Leads c is) ps rs → LeadsToMatch (Leads d (hidden-the_row-Instr-0 js)) ps rs
 row_ends c d is js ps rs k (last, l, a) =
     let (u, h, b) = lower_ends d js last ps rs a (k (operands ps) last (operands ps) l (lower_self (operands ps))) in (u, block_leads d js (operands ps) u h, b)
 
--- a block itself calls nothing
+-- The operands of a block's type call no function.
 calls_none : (listed : List ℕ) (ty : BlockType) → list_any (is_opaque_call listed) (block_operands ty) ≡ false
 calls_none listed bt.Empty = refl
 calls_none listed (bt.Value t) = refl
 calls_none listed (bt.Index i) = refl
 
 module _ (m : Remap) (listed : List ℕ) (codes : Codes) (c d : Context) (locals : c.locals ≡ d.locals) (results : c.results ≡ d.results) (typed : CodesHaveTypes listed codes c d) where
-  -- what stands under the label of a block, where the block has this type
+  -- The contents of a block are replaced under the label that the type of the block gives.
   under_block : {n : _} (ls : Labels) (f : Signature) (ty : BlockType) → signature_of c.types ty ≡ Some f → (is : Row_of-Instr n) (js : List Instr) →
       RowReplaced c.types m listed codes (block_label (signature_of c.types ty) ∷ ls) is js → RowReplaced c.types m listed codes (f.results ∷ ls) is js
   under_block ls f ty g is js k = subst (λ o. RowReplaced c.types m listed codes (block_label o ∷ ls) is js) g k
 
-  -- a call of a function that is on the list, or not
+  -- The code in place of a call leads on as the call does, whether or not its function is on the
+  -- list.
   call_stands : (b : Bool) (ls : Labels) (f : ℕ) (code : List Instr) (s t r : Stack) → is_among listed f ≡ b → (b ≡ false → LayerAgrees m c d (out-Instr (Call f))) → CallReplaced m b codes ls f code →
       Fits (labelled c ls) (Call f) s t → Lower r s → (u : Stack) × LeadsAll (labelled d ls) code r u × Lower u t
   call_stands true ls f code s t r w q k h l =

@@ -1,4 +1,4 @@
--- Blocks: what they hold as a row and as a list, and with other indices.
+-- Blocks: their contents as a row and as a list, and with other indices.
 use Rattle.base_lists.proofs.Common.{◌≡◌, List, ap, sym, ◌∙◌, rules}
 use Rattle.wasm_tree_spec.specs.Prelude.{BlockType, Instr, Row_of-Instr, items-the_row-Instr, items_shown-the_row-Instr-0, roll-out-Instr, the_lemmas, Block, Block', Loop, Loop', If, If'}
 use Rattle.wasm_tree.specs.declared.instr.Instr.TheBlock.{shown-the_row-Instr-0}
@@ -6,7 +6,7 @@ use Rattle.wasm_tree.specs.declared.instr.Instr.TheViews.{roll-Instr, outs-Block
 use Rattle.index_remap.specs.declared.remap.Remap.{Remap}
 use Rattle.index_remap.specs.Prelude.{new_type, renumbered, renumbered_all}
 
--- a block as the one with the list of what it holds
+-- A block with a row of instructions equals the block with the list of these instructions.
 pub block_is : (bt : BlockType) (n : _) (row : Row_of-Instr _) → Block' bt n row ≡ Block bt (items-the_row-Instr _ row)
 block_is bt n row = sym (roll-out-Instr (Block' bt n row)) ∙ ap roll-Instr (outs-Block' bt n row) ∙ rolls-Block bt (shown-the_row-Instr-0 n row) ∙ ap (Block bt) (items_shown-the_row-Instr-0 n row)
 

@@ -58,7 +58,7 @@ module _ (R : Pairing) (apart : OneToOne R) (B C : Store → Store → List Entr
 
   -- ---- transitions ----
 
-  -- a step of the machine over both, or steps that the runs make
+  -- Two transitions are related if both are steps of the machine, or both are made without one.
   data TransitionRel : Transition → Transition → Type 0 where
     steps : {r q : Run} {o p : Outcome Next} → RunRel R B F r q → ResRel (NextRel R B) o p → TransitionRel (Steps r o) (Steps q p)
     makes : {o p : Out} → OutRel R B F o p → TransitionRel (Makes o) (Makes p)
@@ -67,7 +67,7 @@ module _ (R : Pairing) (apart : OneToOne R) (B C : Store → Store → List Entr
   made_rel (steps h s) = after_rel h s
   made_rel (makes o) = o
 
-  -- both call a placeholder, or neither does
+  -- Of two related transitions, both call a placeholder or neither does.
   kinds_rel : {t u : Transition} → TransitionRel t u → calls_placeholder t ≡ calls_placeholder u
   kinds_rel (steps h trap) = refl
   kinds_rel (steps h wrong) = refl
@@ -195,7 +195,7 @@ module _ (R : Pairing) (apart : OneToOne R) (B C : Store → Store → List Entr
   moved_rel (Set p n v) h c w free = then_rel (place_at_rel p h) (λ _ _ x. set_rel n v h x)
   moved_rel (Extend p n) h c w free = then_rel (place_at_rel p h) (λ _ _ x. extended_rel n h x)
 
-  -- a growth does not wait
+  -- The entry on top is no growth that waits for the embedder.
   abbrev NotGrowing : List Entry → Type 0
   NotGrowing (Growing g ∷ es) = ⊥
   NotGrowing es = Unit {0}
@@ -217,7 +217,8 @@ module _ (R : Pairing) (apart : OneToOne R) (B C : Store → Store → List Entr
   moves_rel : {r q : Run} (ms : List Move) → RunRel R B F r q → RunRel R B F (record r { moves = ms }) (record q { moves = ms })
   moves_rel ms h = record { store = h.store; entries = h.entries; phase = h.phase; shown = h.shown; view = h.view; owned = h.owned; moves = refl }
 
-  -- a move that is due calls no function of the list, unless a growth waits, when it calls nothing
+  -- The next move calls no function on the list; where a growth waits, a move calls no function at
+  -- all.
   abbrev Skips : Run → List Move → Type 0
   Skips r ms = NotGrowing r.entries → NextMoveSkips R r.view r.shown ms
 
@@ -228,7 +229,7 @@ module _ (R : Pairing) (apart : OneToOne R) (B C : Store → Store → List Entr
   due_move_rel : {r q : Run} {ms ns : List Move} → ms ≡ ns → RunRel R B F r q → C r.store q.store r.entries q.entries → TopView R (written apart) C r.store q.store r.entries q.entries → Skips r ms → TransitionRel (next_move r ms) (next_move q ns)
   due_move_rel {r} {q} {ms} e h c w free = subst (λ x. TransitionRel (next_move r ms) (next_move q x)) e (next_move_rel ms h c w free)
 
-  -- a move that a closed world takes calls nothing
+  -- A move that a closed world takes calls no function.
   closed_skips : (view : _) (shown : List ℕ) (m : Move) → is_taken_closed m ≡ true → MoveSkips R view shown m
   closed_skips view shown (Call i xs) h = cc
   closed_skips view shown (Invoke k xs) h = cc
@@ -281,7 +282,8 @@ module _ (R : Pairing) (apart : OneToOne R) (B C : Store → Store → List Entr
   open_next_rel h nil e free = makes (record { event = refl; run = record { store = h.store; entries = stacks.steady e; phase = opened; shown = h.shown; view = view_of_rel h h.phase; owned = h.owned; moves = h.moves } })
   open_next_rel h (cons n x) e free = or_closed_rel h (started_rel h x e n free)
 
-  -- a step of each, given what a step of the top frames comes to
+  -- The transitions of two related runs are related, if the steps of the machine from their stacks
+  -- are.
   between_rel : {r q : Run} {es fs : List Entry} → RunRel R B F r q → (C r.store q.store es fs → C r.store q.store r.entries q.entries) → (TopView R (written apart) C r.store q.store es fs → TopView R (written apart) C r.store q.store r.entries q.entries) →
       TopView R (written apart) C r.store q.store es fs → ResRel (NextRel R B) (step r.store r.entries) (step q.store q.entries) → r.entries ≡ es → TickSkips R r es → TransitionRel (transition_at r es) (transition_at q fs)
   between_rel h whole views (top_none e) s same free = in_phase_rel h (whole e) (views (top_none e)) h.phase free
@@ -296,7 +298,7 @@ module _ (R : Pairing) (apart : OneToOne R) (B C : Store → Store → List Entr
       TopView R (written apart) C r.store q.store es fs → ResRel (NextRel R B) (step r.store r.entries) (step q.store q.entries) → r.entries ≡ es → TickSkips R r es → OutRel R B F (made (transition_at r es)) (made (transition_at q fs))
   still_rel h whole views w s same free = made_rel (between_rel h whole views w s same free)
 
-  -- of what kind they are
+  -- Of the transitions of two related runs, both call a placeholder or neither does.
   pub still_kinds : {r q : Run} {es fs : List Entry} → RunRel R B F r q → (C r.store q.store es fs → C r.store q.store r.entries q.entries) → (TopView R (written apart) C r.store q.store es fs → TopView R (written apart) C r.store q.store r.entries q.entries) →
       TopView R (written apart) C r.store q.store es fs → ResRel (NextRel R B) (step r.store r.entries) (step q.store q.entries) → r.entries ≡ es → TickSkips R r es → calls_placeholder (transition_at r es) ≡ calls_placeholder (transition_at q fs)
   still_kinds h whole views w s same free = kinds_rel (between_rel h whole views w s same free)

@@ -1,4 +1,5 @@
--- Where the list is empty no step begins a call of a function of it: runs from related states, where all is related, have equal traces.
+-- Runs from related states have equal traces if the list is empty, since then no step begins a call
+-- of a function on it.
 use Rattle.base_lists.proofs.Common.{◌≡◌, ℕ, List, [], ◌∷◌, Bool, refl, sym}
 use Rattle.wasm_tree_spec.specs.Prelude.{Space}
 use Rattle.std.proofs.lemmas.Bool.{true≢false}

@@ -1,5 +1,6 @@
--- Runs whose stacks are related by a relation that pushing an entry keeps, and putting others in place of frames on top: one step of each gives the same event, leaves them
--- related, and leaves what has no partner.
+-- Runs whose stacks are related by a relation that is kept when an entry is pushed and when the
+-- frames on top are replaced: one step of each gives the same event, leaves the runs related, and
+-- leaves what has no partner as it is.
 use Rattle.base_lists.proofs.Common.{◌≡◌, List, [], ◌∷◌, refl, there, same_there}
 use Rattle.wasm_meaning.specs.Prelude.{Outcome, Val, Store, Change, Level, Frame, Entry, Running, Caller, Act, Ends, changed, give, give_levels, perform, step, to_mark, Phase, Run, Out, is_mark, run_after, transition, tick}
 use Rattle.wasm_meaning.proofs.Outcomes.{all_at}
@@ -12,7 +13,6 @@ use Rattle.index_remap.proofs.StepsAgree.{Stacks, TopView, top_none, top_mark, t
 use Rattle.index_remap.proofs.Others.{first_partnered, second_partnered, change_keeps, none_changed}
 use Rattle.index_remap.proofs.Runs.{after_rel, still_rel, still_kinds}
 
--- the act ends its frame
 abbrev pub IsEnd : Act → Type 0
 IsEnd (Ends vs) = Unit {0}
 IsEnd _ = ⊥
@@ -31,7 +31,8 @@ module _ (R : Pairing) {B C F G : Store → Store → List Entry → List Entry 
   run_by h = record { store = h.store; entries = from _ _ _ _ h.entries; phase = phase_by h.phase; shown = h.shown; view = h.view; owned = h.owned; moves = h.moves }
 
 module _ (R : Pairing) (apart : OneToOne R) where
-  -- a relation of stacks: what is on top is related, and frames on top may give way to others that give results of the same types
+  -- A relation of stacks that relates what is on top, and is kept when the frames on top are
+  -- replaced by others with results of the same types.
   pub record Shape (E : List Entry → List Entry → Type 0) : Type 0 where
     pub nothing : E [] []
     pub push : {e f : Entry} {es fs : List Entry} → EntryRel R e f → E es fs → E (e ∷ es) (f ∷ fs)
@@ -40,9 +41,11 @@ module _ (R : Pairing) (apart : OneToOne R) where
     pub again : {f g h k : Frame} {es fs : List Entry} → E (Running f ∷ es) (Running g ∷ fs) → h.results ≡ f.results → k.results ≡ g.results → FrameRel R h k → E (Running h ∷ es) (Running k ∷ fs)
     pub marks : {es fs : List Entry} → E es fs → ResRel (PairRel (◌≡◌ {A = Caller}) E) (to_mark es) (to_mark fs)
 
-  -- over the stores before, in this phase
+  -- The definitions and lemmas of this section are about a step from the stores `first` and
+  -- `second`, in the phase `phase`.
   module _ (E : List Entry → List Entry → Type 0) (shape : Shape E) (phase : Phase) (first second : Store) where
-    -- related by E; and once they are instantiated nothing without a partner was changed
+    -- The stacks are related by E; and once the runs are instantiated, nothing without a partner
+    -- was changed.
     pub record Held (s t : Store) (es fs : List Entry) : Type 0 where
       pub stack : E es fs
       pub first_keeps : IsBegun phase → KeepsOthers (turned R) first s
@@ -110,7 +113,8 @@ module _ (R : Pairing) (apart : OneToOne R) where
       enters = λ h n free _ _ v b. bind_found (there (h.funcs n free)) (λ _ _ f. done (enter_rel R (written apart) (StoreRel R) Held Held (λ s t es fs b. b) (λ s t e f es fs p b. push p b) h f v b));
     }
 
-    -- what the frame on top does; where it ends, what is on the stack below has to be related
+    -- Related acts of the frames on top have related results; if they end the frames, what is on
+    -- the stack below has to be related.
     pub perform_rel : {s t : Store} {f g : Frame} {x y : Act} {es fs : List Entry} → StoreRel R s t → ActRel R f.inst g.inst x y → Held s t (Running f ∷ es) (Running g ∷ fs) → NotOpaque R x → (IsEnd x → E es fs) → ResRel (NextRel R Held) (perform s f es x) (perform t g fs y)
     perform_rel h (goes c r) b free below = done (ran (changed_rel R (written apart) h c) (changes c (with_stack b (shape.again b.stack refl refl (frame_rel R (written apart) (shape.frames b.stack) r)))))
     perform_rel h (calls {vs = vs} n v r) b free below =
@@ -120,7 +124,7 @@ module _ (R : Pairing) (apart : OneToOne R) where
     perform_rel {f = f} h (ends v) b free below =
         rw (← (shape.frames b.stack).results) (bind_rel (pop_typed_rel R f.results v) (λ _ _ q. stacks.gives h q.first (with_stack b (below tt))))
 
-    -- no instantiation is left to come
+    -- The stacks are related by E, and the runs are not instantiated yet.
     abbrev pub NoneBegun : Store → Store → List Entry → List Entry → Type 0
     NoneBegun s t es fs = (IsBegun phase → ⊥) × E es fs
 
@@ -133,7 +137,7 @@ module _ (R : Pairing) (apart : OneToOne R) where
     pub kinds_next : (r q : Run) → RunRel R Held NoneBegun r q → TickSkips R r r.entries → ResRel (NextRel R Held) (step r.store r.entries) (step q.store q.entries) → calls_placeholder (transition r) ≡ calls_placeholder (transition q)
     kinds_next r q h skips next = still_kinds R apart Held Held stacks NoneBegun (λ s t es fs b. from_none b) h (λ b. b) (λ b. b) (view_of h.entries) next refl skips
 
-  -- runs before a step, of which nothing was changed
+  -- The lemmas of this section are about two runs before a step, when nothing is changed yet.
   module _ (E : List Entry → List Entry → Type 0) (shape : Shape E) (r q : Run) (h : RunRel R (λ s t. E) (λ s t. E) r q) where
     pub unchanged : {es fs : List Entry} → E es fs → Held E shape r.phase r.store q.store r.store q.store es fs
     unchanged e = record { stack = e; first_keeps = λ p. none_changed (turned R) r.store; second_keeps = λ p. none_changed R q.store }
@@ -153,11 +157,11 @@ module _ (R : Pairing) (apart : OneToOne R) where
     pub together : TickSkips R r r.entries → ResRel (NextRel R (Held E shape r.phase r.store q.store)) (step r.store r.entries) (step q.store q.entries) → RunsStepTogether R (λ s t. E) r q (tick r) (tick q)
     together skips next = as_before (after_next E shape r.phase r.store q.store r q held_before skips next)
 
-    -- both steps call a placeholder, or neither does
+    -- Of the next transitions, both call a placeholder or neither does.
     pub same_kinds : TickSkips R r r.entries → ResRel (NextRel R (Held E shape r.phase r.store q.store)) (step r.store r.entries) (step q.store q.entries) → calls_placeholder (transition r) ≡ calls_placeholder (transition q)
     same_kinds skips next = kinds_next E shape r.phase r.store q.store r q held_before skips next
 
-    -- both give values to what waits for them
+    -- Two runs that give related values to the entries on top step together.
     pub given_together : {us ws : List Val} → ListRel (ValRel R) us ws → RunsStepTogether R (λ s t. E) r q (run_after r (give r.store us r.entries)) (run_after q (give q.store ws q.entries))
     given_together v =
         let o = after_rel R apart (Held E shape r.phase r.store q.store) (Held E shape r.phase r.store q.store) (stacks E shape r.phase r.store q.store) (NoneBegun E shape r.phase r.store q.store) (λ s t es fs b. from_none E shape r.phase r.store q.store b) held_before

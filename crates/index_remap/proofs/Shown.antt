@@ -1,4 +1,4 @@
--- What is shown of related values is the same.
+-- Related values are shown as the same to the embedder.
 use Rattle.base_lists.proofs.Common.{◌≡◌, ℕ, List, [], ◌∷◌, ◌++◌, Option, Some, None, true, false, ◌⊎◌, inl, inr, refl, sym, ap, subst, ◌∙◌, eqb_tells, nat_eq, length_rel}
 use Rattle.wasm_tree_spec.specs.Prelude.{Functions, FuncType}
 use Rattle.wasm_meaning.specs.Prelude.{Pair, Val, Store, own_at, Function, show_all}

@@ -1,4 +1,5 @@
--- Calls through a slot of a table, by a trampoline and by two instructions in place of a direct call.
+-- Calls through a slot of a table, by a trampoline and by two instructions in place of a direct
+-- call.
 use Rattle.base_lists.proofs.Common.{◌≡◌, true, ℕ, suc, ◌+◌, List, [], ◌∷◌, ◌++◌, length, Some, option_and_then, refl, ap, subst, ◌∙◌, arith, append-nil, slice_get, ℤ, and_from, each_same_self, append_rel}
 use Rattle.wasm_tree_spec.specs.Prelude.{ValType, FuncType, Instr, Call, CallIndirect, same_type, same_types, same_func_type}
 use Rattle.wasm_tree.specs.declared.instr.Instr.{out-Instr}
@@ -16,14 +17,15 @@ func_type_self t =
 
 -- ---- the two instructions ----
 
--- the second calls the function in the slot with what is below the slot's number
+-- The second of the two instructions calls the function in the slot, with the values below the
+-- number of the slot.
 pub slot_act : (t : Store) (g : Frame) (m : Level) (ms : List Level) (u : FuncType) (ty table : ℕ) (slot : ℤ) (c : ℕ) → InSlot t g.inst u ty table slot c → (more : List Val) (d : List Instr) →
     act t (at_code g m ms (Num W32 (wrapped 32 slot) ∷ more) (CallIndirect ty table ∷ d)) ≡ Gives (Calls c more (record { locals = g.locals; values = Num W32 (wrapped 32 slot) ∷ more; rest = d; gives = m.gives; takes = m.takes; back = m.back; outer = ms }))
 unfolding out-Instr denote.Hole.Carrier.out
 slot_act t g m ms u ty table slot c h more d =
     rw (h.names, h.stands, h.refers, h.is_function, h.typed, h.type, func_type_self u) refl
 
--- they pop the arguments, and enter the function in the slot with these
+-- The two instructions pop the arguments, and enter the function in the slot with these.
 slot_calls : (t : Store) (g : Frame) (m : Level) (ms : List Level) (u : FuncType) (ty table : ℕ) (slot : ℤ) (c : ℕ) → InSlot t g.inst u ty table slot c → (more : List Val) (d : List Instr) (fs : List Entry) →
     go_on 2 (Gives (Ran t (Running (at_code g m ms more (slot_call ty table slot ++ d)) ∷ fs))) ≡ bind (pop_typed u.params more) (λ p. enter_at t c p.0 (Running (at_code g m ms p.1 d) ∷ fs))
 unfolding out-Instr denote.Hole.Carrier.out
@@ -43,7 +45,7 @@ slot_calls_enter t g m ms u ty table slot c h ws left more d fs pops =
 abbrev body_level : List ValType → Level
 body_level results = record { values = []; code = []; gives = length results; takes = length results; back = [] }
 
--- the locals from this one on are pushed one after the other
+-- The first instructions of a trampoline push the locals from number `n` on, one after the other.
 gets_push : (t : Store) (inst : Inst) (locals : List Val) (results : List ValType) (n : ℕ) {ts : List ValType} {ys : List Val} (values : List Val) (more : List Instr) (fs : List Entry) → HaveTypes ts ys →
     ((k : ℕ) (y : Val) → slice_get ys k ≡ Some y → slice_get locals (n + k) ≡ Some y) →
     go_on (suc (suc (length ts))) (Gives (Ran t (Running (at_code (passing inst locals results) (body_level results) [] values (gets n ts ++ more)) ∷ fs)))
@@ -66,7 +68,7 @@ trampolines_enter t inst u ty table slot b c is h ws fs typed =
 -- ---- against the direct call ----
 
 module _ (R : Pairing) where
-  -- the frames of defined functions with related code
+  -- The frames of defined functions with related code and related arguments are related.
   entered : {s t : Store} {u : FuncType} {a c : ℕ} (k : CodeAt R s t u a c) {vs ws : List Val} → ListRel (ValRel R) vs ws → FrameRel R
       (record { inst = k.first_inst; locals = vs ++ zeros k.locals; results = u.results; levels = record (body_level u.results) { code = k.first_code } ∷ [] })
       (record { inst = k.second_inst; locals = ws ++ zeros k.locals; results = u.results; levels = record (body_level u.results) { code = k.second_code } ∷ [] })
@@ -82,11 +84,12 @@ module _ (R : Pairing) where
   unfolding out-Instr denote.Hole.Carrier.out
   direct_call s f o os u n a i ls code c vs es named stands = rw (named, stands) refl
 
-  -- the values of the frames on top
+  -- Related lists of levels have related first levels, and related levels after these.
   values_on_top : {l m : Level} {ls ms : List Level} {i j : Inst} → ListRel (LevelRel R i j) (l ∷ ls) (m ∷ ms) → LevelRel R i j l m × ListRel (LevelRel R i j) ls ms
   values_on_top (cons l ls) = (l, ls)
 
-  -- both pop arguments of these types, and enter functions with related code over the frames that go on
+  -- Both runs pop arguments of these types, and enter functions with related code; the calling
+  -- frames stay below.
   enters_over : (s t : Store) (es fs : List Entry) → StoreRel R s t → (f g : Frame) (o m : Level) (os ms : List Level) (c d : List Instr) → WithPassing R (Running (at_code f o os o.values c) ∷ es) (Running (at_code g m ms m.values d) ∷ fs) → (u : FuncType) (a b : ℕ) → CodeAt R s t u a b →
       ResRel (NextRel R (FramesBetween R)) (bind (pop_typed u.params o.values) (λ p. enter_at s a p.0 (Running (at_code f o os p.1 c) ∷ es))) (bind (pop_typed u.params m.values) (λ p. enter_at t b p.0 (Running (at_code g m ms p.1 d) ∷ fs)))
   enters_over s t es fs h f g o m os ms c d below u a b k =

@@ -1,4 +1,4 @@
--- One step of each agrees.
+-- One step of each of two related configurations agrees.
 use Rattle.base_lists.proofs.Common.{◌≡◌, ℕ, List, [], ◌∷◌, refl, ap, subst, ◌∙◌, true, Some, append_rel}
 use Rattle.wasm_tree.specs.declared.space.Space.TheVariants as space
 use Rattle.wasm_tree_spec.specs.Prelude.{ValType, Instr, FuncType}
@@ -23,13 +23,13 @@ use Rattle.index_remap.proofs.ValueGroup.{values_agree}
 use Rattle.index_remap.proofs.MemoryGroup.{memories_agree}
 use Rattle.index_remap.proofs.ControlGroup.{control_agrees}
 
--- the laws of the three groups, joined
+-- The laws of the three groups of instructions, joined.
 pub each_group : (g : Group) → GroupAgrees g
 each_group Values = values_agree
 each_group Memories = memories_agree
 each_group Control = control_agrees
 
--- where no function is on the list, no call of one begins
+-- No act calls a function on the list if the list is empty.
 pub none_called : (R : Pairing) → ((a : ℕ) → ¬ R.listed a) → (x : Act) → NotOpaque R x
 none_called R plain (Goes c f) = tt
 none_called R plain (Calls a vs h) = plain a
@@ -75,7 +75,7 @@ module _ (R : Pairing) (apart : OneToOneWhereWritten R) where
       FrameRel R (record f { levels = record l { values = onto vs l.values } ∷ ls }) (record g { levels = record m { values = onto ws m.values } ∷ ms })
   frame_given f l ls v = record { locals = f.locals; results = f.results; levels = cons (record { values = onto_rel v l.values; code = l.code; gives = l.gives; takes = l.takes; back = l.back }) ls }
 
-  -- what is known of the entry on top, where C relates what is on the stack below
+  -- What is known of the entry on top of two stacks, if C relates what is below it.
   pub data TopView (C : Store → Store → List Entry → List Entry → Type 0) (s t : Store) : List Entry → List Entry → Type 0 where
     top_none : C s t [] [] → TopView C s t [] []
     top_mark : {es fs : List Entry} → C s t es fs → TopView C s t (Mark ∷ es) (Mark ∷ fs)
@@ -85,7 +85,8 @@ module _ (R : Pairing) (apart : OneToOneWhereWritten R) where
     top_growing : {g h : Growth} {es fs : List Entry} → GrowthRel R g h → C s t es fs → TopView C s t (Growing g ∷ es) (Growing h ∷ fs)
     top_running : {f g : Frame} {es fs : List Entry} → TopView C s t (Running f ∷ es) (Running g ∷ fs)
 
-  -- relations of whole configurations (B) and of what is on the stack below (C), which calls and ends keep
+  -- B relates whole configurations and C what is below the frames on top; calls and ends of frames
+  -- keep both.
   pub record Stacks (B C : Store → Store → List Entry → List Entry → Type 0) : Type 0 where
     pub steady : {s t : Store} {es fs : List Entry} → C s t es fs → B s t es fs
     pub cleared : {s t : Store} {es fs : List Entry} → B s t es fs → C s t [] []

@@ -22,16 +22,17 @@ pub may_same : (t u : Table) (n : ℕ) → length t.slots ≡ length u.slots →
 may_same t u n size most = rw (size, most)
 
 module _ (R : Pairing) (off : Unknowns) (ev ew : Env) (st : StoreRelOff R off ev.store ew.store) where
-  -- the slots of a table that are known
+  -- The slots of a table that are known.
   abbrev pub known_in : ℕ → ℕ → Bool
   known_in a n = not (is_place_among off.slots a n)
 
-  -- tables at related addresses, which are related but for their unknown slots
+  -- Related addresses hold tables that are related but for their unknown slots, so that
+  -- continuations that agree on these agree.
   pub bind_table : {B C : Type 0} {Q : B → C → Type 0} {h k : Body} (n m : ℕ) (f : ℕ → Table → Outcome B) (g : ℕ → Table → Outcome C) → BodyRel R ev.inst ew.inst h k → AreIndicesRelated R.of Tables ev.inst.tables ew.inst.tables n m →
       ((a b : ℕ) (x y : Table) → slice_get ev.inst.tables n ≡ Some a → R.of Tables a b → TableOff R (known_in a) x y → ResRel Q (f a x) (g b y)) → ResRel Q (with_table ev n f) (with_table ew m g)
   bind_table n m f g r p q = bind_found_is p (λ a b is p. bind_found (there (st.tables p)) (λ x y t. q a b x y is p t))
 
-  -- the slot whose place is on top is known
+  -- The slot whose number is on top of the stack is known.
   pub slot_known : (o : Outcome ReadPlace) (a i : ℕ) → ReadsKnown off o → o ≡ Gives (ReadsSlots a i 1) → known_in a i ≡ true
   slot_known o a i reads is = ap not (reads _ is i (omega arith) (omega arith))
 
@@ -65,7 +66,8 @@ module _ (R : Pairing) (off : Unknowns) (ev ew : Env) (st : StoreRelOff R off ev
       bind_table n m _ _ r p (λ a _ e f _ p t. bind_num R W32 _ _ r.values (λ c _ _ v. bind_rel (pop_ref_rel R v) (λ _ _ s. bind_rel (fits_rel R e f t.type s.first) (λ y z x. bind_num R W32 _ _ s.second (λ d _ _ v.
       writes_table_rel r p t (overwrite_off R (known_in a) d t.slots (copies_rel y z c x)) v)))))
 
-  -- references are copied that are known
+  -- A copy from an element segment to a table agrees if all the references that are copied are
+  -- known.
   init_table_rel : {h k : Body} {a b : ℕ} {xs ys : List RefVal} {t u : Table} (is_known : ℕ → Bool) → RefsOff R is_known xs ys → BodyRel R ev.inst ew.inst h k → R.of Tables a b → TableOff R (known_in a) t u →
       ((n : ℕ × ℕ × ℕ) (vs : List Val) → pop_three h.values ≡ Gives (n, vs) → (place : ℕ) → n.1 ≤ place → place < n.1 + n.2 → is_known place ≡ true) → ResRel (ActOff R off ev.inst ew.inst) (init_table h xs a t) (init_table k ys b u)
   init_table_rel {a = a} is_known x r p t all =

@@ -1,5 +1,6 @@
--- A function that is called directly, through a trampoline and through the two instructions, computed; slots in which there is none, or one of another type; and a call
--- that ends under a frame of a trampoline.
+-- A function that is called directly, through a trampoline and through the two instructions,
+-- computed; slots that hold no function, or one of another type; and a call that ends under a frame
+-- of a trampoline.
 use Rattle.base_lists.proofs.Common.{◌≡◌, ◌∙◌, subst, refl, sym, ℕ, zero, suc, List, [], ◌∷◌, Some, None, Bool, true, false, slice_get, pos}
 use Rattle.index_remap.proofs.LawRows.{no_more}
 use Rattle.wasm_tree_spec.specs.Prelude.{Space, Types, Functions, Tables, Memories, Globals, ElementSegments, DataSegments, I32, FuncType, Instr}
@@ -26,14 +27,15 @@ to_itself = record { params = I32 ∷ []; results = I32 ∷ [] }
 abbrev inst : Inst
 inst = record { types = to_itself ∷ []; funcs = 0 ∷ []; tables = 0 ∷ []; mems = []; globals = []; elems = []; datas = [] }
 
--- it gives what it takes
+-- The function returns its argument.
 abbrev gives_it : Func
 gives_it = Code to_itself inst [] (i.LocalGet 0 ∷ [])
 
 abbrev store : List Func → List RefVal → Store
 store funcs slots = record { funcs = funcs; tables = record { ty = reft.Func; most = None; slots = slots } ∷ []; mems = []; globals = []; elems = []; datas = [] }
 
--- the function itself; and a trampoline in its place, with the function in slot 1 of a table
+-- The first store has the function itself; the second has a trampoline in its place, and the
+-- function in slot 1 of a table.
 abbrev direct : Store
 direct = store (gives_it ∷ []) []
 
@@ -43,7 +45,7 @@ by_slot = store (trampoline inst to_itself 0 0 (pos 1) ∷ (gives_it ∷ [])) (F
 abbrev seven : List Val
 seven = Num W32 7 ∷ []
 
--- its frame, with these values and this code
+-- The frame of the function, with these values and this code.
 abbrev in_it : List Val → List Instr → Entry
 in_it values code = Running (record { inst = inst; locals = seven; results = I32 ∷ []; levels = record { values = values; code = code; gives = 1; takes = 1; back = [] } ∷ [] })
 
@@ -59,7 +61,7 @@ through_a_trampoline : (es : List Entry) → go_on 3 (enter_at by_slot 0 seven e
 unfolding out-Instr denote.Hole.Carrier.out wrapped
 through_a_trampoline es = refl
 
--- a step before it is about to be
+-- One step earlier the trampoline has not yet entered the function.
 not_in_two_steps : (es : List Entry) → go_on 2 (enter_at by_slot 0 seven es) ≡ Gives (Ran by_slot (in_it (Num W32 1 ∷ seven) (i.CallIndirect 0 0 ∷ []) ∷ es))
 unfolding out-Instr denote.Hole.Carrier.out wrapped
 not_in_two_steps es = refl
@@ -72,7 +74,8 @@ by_a_call : (es : List Entry) → step direct (in_it seven (i.Call 0 ∷ []) ∷
 unfolding out-Instr denote.Hole.Carrier.out
 by_a_call es = refl
 
--- slot 0 is empty; and in slot 1 stands a function of another type
+-- A call through slot 0, which is empty, traps; and so does a call through slot 1 if it holds a
+-- function of another type.
 an_empty_slot_traps : (es : List Entry) → go_on 2 (Gives (Ran by_slot (in_it seven (slot_call 0 0 (pos 0)) ∷ es))) ≡ Traps
 unfolding out-Instr denote.Hole.Carrier.out wrapped
 an_empty_slot_traps es = refl
@@ -86,7 +89,7 @@ another_type_traps es = refl
 
 -- ---- the law ----
 
--- function 0 denotes its trampoline, and is on the list
+-- Function 0 is related to its trampoline, and is on the list.
 abbrev zero_alone : Space → ℕ → ℕ → Bool
 zero_alone Functions zero zero = true
 zero_alone _ _ _ = false
@@ -132,7 +135,7 @@ same_code = record { first_inst = inst; second_inst = inst; locals = []; first_c
 the_calls_agree : ResRel (NextRel L (FramesBetween L)) (enter_at direct 0 seven []) (go_on 3 (enter_at by_slot 0 seven []))
 the_calls_agree = trampoline_calls L direct by_slot [] [] related between.WithPassing.nil inst to_itself 0 0 (pos 1) 0 0 1 refl in_slot_one same_code seven seven (cons number nil) (cons refl nil)
 
--- nothing else is in that slot
+-- Slot 1 does not hold the trampoline.
 not_the_trampoline : InSlot by_slot inst to_itself 0 0 (pos 1) 0 → ⊥
 unfolding wrapped
 not_the_trampoline h = cc (h.names, h.stands, h.refers)
@@ -164,7 +167,7 @@ a_start_of_another_does_not r es h = no_more h
 
 -- ---- the laws of runs ----
 
--- only zeros are related, so that the relation is one to one
+-- The relation holds of address 0 only, so that it is one to one.
 only_zeros : (k : Space) (a b : ℕ) → L.of k a b → (a ≡ 0) × (b ≡ 0)
 only_zeros Functions zero zero h = (refl, refl)
 only_zeros Functions zero (suc b) h = no_more h
@@ -182,12 +185,12 @@ apart = record { right = λ {k} a b c h j. (only_zeros k a b h).1 ∙ sym (only_
 abbrev in_run : Store → List Entry → Run
 in_run s es = record { store = s; entries = es; phase = Opened; shown = []; view = []; owned = []; moves = [] }
 
--- what the step comes to is no call of a function of the list
+-- The result of a step, if there is one, is no call of a function on the list.
 abbrev NoOpaque : Outcome Act → Type 0
 NoOpaque (Gives x) = NotOpaque L x
 NoOpaque _ = Unit {0}
 
--- a reference to the function of the list is taken
+-- The frame takes a reference to the function on the list.
 abbrev refers : Entry
 refers = in_it [] (i.RefFunc 0 ∷ [])
 
@@ -198,7 +201,7 @@ a_reference_is_taken =
     ticks_together L apart (in_run direct (refers ∷ [])) (in_run by_slot (refers ∷ [])) (record { store = related; entries = cons e nil; phase = opened; shown = nil; view = nil; owned = nil; moves = refl }) (λ x is. subst NoOpaque is tt)
     (entries_known L (λ k a b h. h) (refers ∷ []) (refers ∷ []))
 
--- the function ends, in the second under the frame of its trampoline
+-- The stack of the second run when the function ends has the frame of the trampoline below.
 abbrev under_the_trampoline : List Entry
 under_the_trampoline = in_it seven [] ∷ (Running (passing inst seven (I32 ∷ [])) ∷ (Mark ∷ []))
 
@@ -209,6 +212,6 @@ it_ends_alike =
     not_seen L apart (in_run direct (in_it seven [] ∷ (Mark ∷ []))) (in_run by_slot under_the_trampoline) (record { store = related; entries = stacks; phase = opened; shown = nil; view = nil; owned = nil; moves = refl }) (λ x is. subst NoOpaque is tt)
     (entries_known L (λ k a b h. h) (in_it seven [] ∷ (Mark ∷ [])) under_the_trampoline)
 
--- a frame that waits for fewer results is none that passes these on
+-- A frame that waits for fewer results does not pass the results of the function on.
 not_of_other_results : WithPassing L (in_it seven [] ∷ (Mark ∷ [])) (in_it seven [] ∷ (Running (passing inst seven []) ∷ (Mark ∷ []))) → ⊥
 not_of_other_results (between.WithPassing.cons e (between.WithPassing.cons other more)) = elim other [ ]

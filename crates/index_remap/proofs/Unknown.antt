@@ -44,7 +44,7 @@ nothing_unknown of named l s t = (to_related (passed of named l) s t, to_off (pa
 abbrev without : List ℕ → ℕ → List ℕ
 without xs a = filter (λ b. not (nat_eq b a)) xs
 
--- whether another stands in the list is as it was
+-- Taking one number off a list leaves whether another is in it.
 still_among : (xs : List ℕ) (a c : ℕ) → (a ≡ c → ⊥) → is_among (without xs a) c ≡ is_among xs c
 still_among [] a c n = refl
 still_among (x ∷ xs) a c n = go (eqb_tells x a) (still_among xs a c n)
@@ -64,7 +64,8 @@ still_among (x ∷ xs) a c n = go (eqb_tells x a) (still_among xs a c n)
     go (inl h) more = tests (nat_eq x a) ∙ ap (λ b. cond b (is_among (without xs a) c) (nat_eq c x || is_among (without xs a) c)) h.0 ∙ more ∙ ap (λ b. b || is_among xs c) (sym (other h.1))
     go (inr h) more = tests (nat_eq x a) ∙ ap (λ b. cond b (is_among (without xs a) c) (nat_eq c x || is_among (without xs a) c)) h.0 ∙ ap (λ y. nat_eq c x || y) more
 
--- what is left of the stores after both write what agrees
+-- Stores that are related off unknown places stay so after related changes, which may make a place
+-- known.
 module _ (R : Pairing) (apart : OneToOneWhereWritten R) (u : Unknowns) where
   abbrev GlobalsOff : List ℕ → ℕ → Global → Global → Type 0
   GlobalsOff xs c = GlobalOff R (not (is_among xs c))
@@ -134,7 +135,7 @@ module _ (R : Pairing) (apart : OneToOneWhereWritten R) (u : Unknowns) where
   changed_off r (known c) = known_change r c
   changed_off {s} {t} r (off_slots {a = a} {b = b} {t = x} {v = y} n q) = table_set s t a b x y r n q
 
-  -- globals of related addresses are of one type
+  -- Globals at related addresses have the same type.
   same_type : {s t : Store} {a b : ℕ} {g h : Global} → StoreRelOff R u s t → R.of Globals a b → slice_get s.globals a ≡ Some g → slice_get t.globals b ≡ Some h → g.ty ≡ h.ty
   same_type {t = t} {a = a} {b = b} {g = g} {h = h} r n at_g at_h = go (subst (BothRel (GlobalsOff u.globals a) (Some g)) at_h (subst (λ o. BothRel (GlobalsOff u.globals a) o (slice_get t.globals b)) at_g (r.globals n)))
     where

@@ -1,5 +1,6 @@
--- The law of steps off unknown places, of two small stores that differ in a global and in a slot of a table: a run that reads the other slot, and the global once it
--- was set; and a read of the global before, which breaks what the law says of steps that read no unknown place.
+-- The law of steps off unknown places, of two small stores that differ in a global and in a slot of
+-- a table: a run that reads the other slot, and the global once it was set; and a read of the
+-- global before, which breaks what the law says of steps that read no unknown place.
 use Rattle.base_lists.proofs.Common.{◌≡◌, refl, sym, subst, ◌∙◌, ℕ, zero, suc, List, [], ◌∷◌, ◌++◌, Some, None, Bool, true, false, not, arith, slice_get}
 use Rattle.base_lists.specs.Members.{is_among}
 use Rattle.std.proofs.lemmas.Bool.{true≢false}
@@ -20,7 +21,7 @@ use Rattle.index_remap.proofs.SameRuns.{touches, skips}
 use Rattle.index_remap.proofs.LawRows.{nowhere, no_store, runs, no_more}
 use Rattle.index_remap.proofs.UnknownSteps.{follows}
 
--- table 0 and global 0
+-- The relation of table 0 and global 0, each to itself.
 abbrev zeros : Space → ℕ → ℕ → Bool
 zeros Tables zero zero = true
 zeros Globals zero zero = true
@@ -48,7 +49,7 @@ apart = record { right = λ {k} w a b c h j. (only k a b h).1 ∙ sym (only k a 
 abbrev inst : Inst
 inst = record nowhere { tables = 0 ∷ []; globals = 0 ∷ [] }
 
--- a global of this value, and a table of two slots, of which the second is null
+-- The store has a global of this value and a table of two slots, of which the second is null.
 abbrev holding : ℕ → RefVal → Store
 holding n r = record no_store { globals = record { ty = record { ty = valt.I32; mutable = true }; value = Num W32 n } ∷ []; tables = record { ty = reft.Func; most = None; slots = r ∷ (FuncRef None ∷ []) } ∷ [] }
 
@@ -58,7 +59,7 @@ first = holding 1 (FuncRef (Some 5))
 abbrev second : Store
 second = holding 2 (FuncRef None)
 
--- of the global nothing is known, nor of the first slot
+-- The global and the first slot of the table are unknown.
 abbrev unknown : Unknowns
 unknown = record { globals = 0 ∷ []; slots = (0, 0) ∷ []; items = [] }
 
@@ -94,21 +95,21 @@ stores_related = record {
 
 -- ---- a run that reads no unknown place ----
 
--- the second slot is read and left, the global is set to 7 and read
+-- The code reads slot 1 and drops what it holds, sets the global to 7 and reads it.
 abbrev reads_a_slot : List Instr
 reads_a_slot = i.TableGet 0 ∷ (i.Drop ∷ (i.GlobalSet 0 ∷ (i.GlobalGet 0 ∷ [])))
 
 abbrev one_and_seven : List Val
 one_and_seven = Num W32 1 ∷ (Num W32 7 ∷ [])
 
--- what is read is this, and known
+-- A step whose place of reading is known to be `r` reads what is known if `r` is known.
 this_is_read : (u : Unknowns) (o : Outcome ReadPlace) (r : ReadPlace) → o ≡ Gives r → IsKnown u r → ReadsKnown u o
 this_is_read u o r e k q f = subst (IsKnown u) (same (sym e ∙ f)) k
   where
     same : {x y : ReadPlace} → Gives x ≡ Gives y → x ≡ y
     same e = cc
 
--- the step of one frame over one of these stores, where it reads this
+-- One step of a frame that reads only what is known, in front of further such steps.
 one_step : {n : ℕ} {u v : Unknowns} {s t r : Store} {vs : List Val} {c : List Instr} {fs gs : List Entry} → StepReadsKnown u s (runs inst vs c ∷ []) → step s (runs inst vs c ∷ []) ≡ Gives (Ran t fs) →
     KnownSteps R n (left_unknown u s (runs inst vs c ∷ [])) t fs v r gs → KnownSteps R (suc n) u s (runs inst vs c ∷ []) v r gs
 one_step {s = s} {vs = vs} {c = c} reads is rest = known_step reads (skips zeros s (runs inst vs c ∷ [])) (λ hs e. entries_known R (λ k a b p. p) (runs inst vs c ∷ []) hs) is rest
@@ -132,7 +133,7 @@ reads_no_unknown_place =
     second_slot (suc zero) from below = refl
     second_slot (suc (suc n)) from below = absurd (omega (arith, below))
 
--- code of one instance is related to itself
+-- The code of the instance is related to itself.
 related_code : EntryRel R (runs inst one_and_seven reads_a_slot) (runs inst one_and_seven reads_a_slot)
 unfolding out-Instr denote.Hole.Carrier.out
 related_code = running (record {
@@ -147,7 +148,7 @@ related_code = running (record {
   }) nil;
 })
 
--- so it is led: the second machine takes four steps too, to a related store and the same number on its stack
+-- The second machine takes four steps too, to a related store and the same number on its stack.
 the_second_follows : FollowsOff R 4 learnt_all after_set (runs inst (Num W32 7 ∷ []) [] ∷ []) second (runs inst one_and_seven reads_a_slot ∷ [])
 the_second_follows = follows R apart stores_related (cons related_code nil) reads_no_unknown_place
 
@@ -164,7 +165,7 @@ reading_code : EntryRel R (runs inst [] reads) (runs inst [] reads)
 unfolding out-Instr denote.Hole.Carrier.out
 reading_code = running (record { locals = nil; results = refl; levels = cons (record { values = nil; code = then (Related.global_get (some refl)) end; gives = refl; takes = refl; back = end }) nil })
 
--- the law of steps without the premise that no unknown place is read
+-- The law of steps without the premise that no unknown place is read.
 abbrev WithoutThePremise : Type 0
 WithoutThePremise =
     (of named : Space → ℕ → ℕ → Bool) (l : List ℕ) → OneToOneWhereWritten (passed of named l) → (u : Unknowns) (s t : Store) (es fs cs ds : List Entry) →
@@ -180,7 +181,7 @@ different (cons (running f) r) = by f.levels
     by : ListRel (Related.LevelRel R inst inst) (record { values = Num W32 1 ∷ []; code = []; gives = 0; takes = 0; back = [] } ∷ []) (record { values = Num W32 2 ∷ []; code = []; gives = 0; takes = 0; back = [] } ∷ []) → ⊥
     by (cons l r) = by_values l.values
 
--- it does not hold: the two numbers that are read differ
+-- The law does not hold without the premise: the two numbers that are read differ.
 it_breaks_the_law : WithoutThePremise → ⊥
 unfolding out-Instr denote.Hole.Carrier.out
 it_breaks_the_law law =

@@ -10,7 +10,8 @@ pub steps_agree_off : StepsAgreeOff
 steps_agree_off of named l apart u s t es fs cs ds h e touches free known reads = step_off (passed of named l) apart cs ds u h e touches free known reads
 
 module _ (R : Pairing) (apart : OneToOneWhereWritten R) where
-  -- the second machine's step, where the first's goes on
+  -- A step of the second machine that answers a step of the first: it leaves a related store and a
+  -- related stack.
   record Led (v : Unknowns) (s : Store) (es : List Entry) (t : Store) (fs : List Entry) : Type 0 where
     store : Store
     entries : List Entry

@@ -34,7 +34,7 @@ module _ (R : Pairing) where
   pop_rel nil = wrong
   pop_rel (cons p r) = done (record { first = p; second = r })
 
-  -- the same number on top of both
+  -- Related values have the same number on top, so that continuations that agree on it agree.
   pub bind_num_is : {C D : Type 0} {Q : C → D → Type 0} {vs ws : List Val} (w : Width) (f : ℕ × List Val → Outcome C) (g : ℕ × List Val → Outcome D) → ListRel (ValRel R) vs ws →
       ((n : ℕ) (xs ys : List Val) → pop_num w vs ≡ Gives (n, xs) → ListRel (ValRel R) xs ys → ResRel Q (f (n, xs)) (g (n, ys))) → ResRel Q (bind (pop_num w vs) f) (bind (pop_num w ws) g)
   bind_num_is w f g nil h = wrong

@@ -1,4 +1,5 @@
--- What is related stays so where more code may stand in place of calls.
+-- Related code, stores and stacks stay related under a wider relation, where more code may stand in
+-- place of calls.
 use Rattle.base_lists.proofs.Common.{ℕ, List, Option, Bool, true, false, both_map, each_rel}
 use Rattle.wasm_tree_spec.specs.Prelude.{Space, Instr}
 use Rattle.wasm_tree.specs.declared.instr.Instr.TheOpen.{Instr-F}

@@ -1,4 +1,5 @@
--- Where all that is kept agrees with its entry and a body names only what is kept, what the body names agrees.
+-- Where all that is kept agrees with its entry and a body names only what is kept, what the body
+-- names agrees.
 use Rattle.base_lists.proofs.Common.{true≢false, IsTrue, List, [], sym}
 use Rattle.wasm_tree_spec.specs.Prelude.{ValType, Instr, ListLayers}
 use Rattle.wasm_valid_bodies.specs.Typing.{Context, WellTyped}

@@ -37,7 +37,7 @@ among_later : (b : Bool) (y x : ℕ) (xs : List ℕ) → is_among xs x ≡ true 
 among_later true y x xs h = right_either (nat_eq x y) (is_among xs x) h
 among_later false y x xs h = h
 
--- what passes is among what passes of the numbers up to n
+-- A number of the range that passes the test is among those of the range that pass it.
 passed : (p : ℕ → Bool) (a n k x : ℕ) → k < n → x ≡ a + k → p x ≡ true → is_among (filter p (range_with_len a n)) x ≡ true
 passed p a zero k x lt e h = absurd (omega arith)
 passed p a (suc n) zero x lt e h = among_first p a x (range_with_len (a + 1) n) h (omega arith)
@@ -48,7 +48,7 @@ first_or_later true y ys zero x e = inl (let same : y ≡ x = cc in same)
 first_or_later true y ys (suc j) x e = inr (j, e)
 first_or_later false y ys j x e = inr (j, e)
 
--- what passes is one of the numbers up to n
+-- Each number of the range that passes the test is within the range.
 passed_within : (p : ℕ → Bool) (a n j x : ℕ) → slice_get (filter p (range_with_len a n)) j ≡ Some x → x < a + n
 passed_within p a zero j x e = absurd (let k = e in cc)
 passed_within p a (suc n) j x e =
@@ -67,11 +67,11 @@ module _ (t : Module) where
   abbrev is_missing : ℕ → Bool
   is_missing f = is_among (body_refs t.funcs) f && not (is_among (outside_refs t) f)
 
-  -- the tree with one more segment
+  -- The tree with one more element segment.
   abbrev with_segment : ElemSeg → Module
   with_segment s = record t { elems = t.elems ++ s ∷ [] }
 
-  -- no offset that has a type names a function
+  -- No well-typed offset of a segment names a function.
   no_offset : (q : RefType) (mode : ElemMode) (x : ℕ) → ElemModeHolds t q mode → offset_func mode ≡ Some x → ⊥
   no_offset q (elem.Active table offset) x h e = here offset h.1 e
     where
@@ -100,7 +100,7 @@ module _ (t : Module) where
           there : HoldsAt t kind.Elem i → ⊥
           there (z, at, items, mode) = let same : z ≡ s = cc in no_offset s.ty s.mode x (subst (λ (w : ElemSeg). ElemModeHolds t w.ty w.mode) same mode) f
 
-  -- a function that a body names is named outside the bodies, or is to be declared
+  -- A function that a body names is named outside the bodies, or is to be declared.
   named_or_missing : ElemsHold → (x : ℕ) → x < space → is_among (body_refs t.funcs) x ≡ true → (is_among (refs_of t) x ≡ true) ⊎ (is_among (declared_refs t) x ≡ true)
   named_or_missing holds x lt h = here (cases_Bool (is_among (outside_refs t) x))
     where
@@ -122,7 +122,8 @@ module _ (t : Module) where
   old_among rs x (inl k) = among_left (elem_refs t.elems ++ rs) rest x (among_left (elem_refs t.elems) rs x k)
   old_among rs x (inr k) = among_right (elem_refs t.elems ++ rs) rest x k
 
-  -- with a segment of these functions they are named
+  -- The functions of a segment are named outside the bodies once the segment is added, and so are
+  -- those that were named before.
   refs_more : (rs : List ℕ) (x : ℕ) → (is_among (refs_of t) x ≡ true) ⊎ (is_among rs x ≡ true) → is_among (refs_of (with_segment (declaring rs))) x ≡ true
   refs_more rs x h = ap (λ zs. is_among (zs ++ rest) x) (elem_refs_more rs) ∙ ⊎_elim (λ k. old_among rs x (among_either (elem_refs t.elems) rest x k)) (λ k. among_left (elem_refs t.elems ++ rs) rest x (among_right (elem_refs t.elems) rs x k)) h
 
@@ -165,7 +166,7 @@ module _ (t : Module) where
     elem_same : (i : ℕ) → HoldsAt t kind.Elem i → HoldsAt (with_segment s) kind.Elem i
     elem_same i (z, at, items, mode) = (z, append_at_left t.elems (s ∷ []) i z at, (λ j e g. const_same e ∙ items j e g), elem_mode_same z.ty z.mode mode)
 
-  -- a segment of functions of the space holds
+  -- A declarative segment of functions of the index space is valid.
   declaring_holds : (rs : List ℕ) (i : ℕ) → ((j x : ℕ) → slice_get rs j ≡ Some x → x < space) → slice_get (t.elems ++ declaring rs ∷ []) i ≡ Some (declaring rs) → HoldsAt (with_segment (declaring rs)) kind.Elem i
   declaring_holds rs i within at = (declaring rs, at, each, tt)
     where
@@ -186,7 +187,7 @@ module _ (t : Module) where
 
   -- ---- bodies ----
 
-  -- each function that a body names may be named
+  -- Each function that a body names may be named by `ref.func`.
   abbrev NamesHold : Module → Type 0
   NamesHold u = (x : ℕ) → x < space → is_among (body_refs t.funcs) x ≡ true → slice_get (named_of u) x ≡ Some true
 

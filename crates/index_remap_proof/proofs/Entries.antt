@@ -1,4 +1,5 @@
--- What is well typed, or valid, names only indices of its spaces, so that a map with as many entries has one for each.
+-- What is well typed, or valid, names only indices of its spaces, so that a map with as many
+-- entries has one for each.
 use Rattle.base_lists.proofs.Common.{◌≡◌, ℕ, true, nat_lt, List, [], ◌∷◌, Option, Some, None, refl, sym, arith, true≢false, slice_get, ltb-true, lt-ltb, and_then_is, left_true, right_true, option_map_is, only_true, only_rest}
 use Rattle.wasm_tree_spec.specs.Prelude.{RefType, ValType, FuncType, BlockType, Operand, Layers, RowLayers, ListLayers, PassesLayerByLayer, operands, block_operands, Instr, Row_of-Instr, end_of-Instr, more_of-Instr, Block', Loop', If', Call, CallIndirect, GlobalGet, GlobalSet, TableGet, TableSet}
 use Rattle.wasm_tree_spec.specs.Prelude.{Load, Store, MemorySize, MemoryGrow, RefFunc, MemoryInit, DataDrop, MemoryCopy, MemoryFill, TableInit, ElemDrop, TableCopy, TableGrow, TableSize, TableFill}
@@ -34,7 +35,7 @@ module _ (m : Remap) (c : Context) (k : CoversContext m c) where
   data_has : (x : ℕ) → nat_lt x c.datas ≡ true → has m.datas x ≡ true
   data_has x h = let lt = ltb-true _ _ h in let le = k.datas in lt-ltb _ _ (omega arith)
 
-  -- each of these indices has an entry
+  -- Each of these indices has an entry.
   abbrev AllEntries : List Operand → Type 0
   AllEntries = Every (λ o. has_entry m o ≡ true)
 

@@ -19,7 +19,8 @@ use Rattle.index_remap_proof.specs.ButForReferences.{any_named, HoldsButForRefer
 use Rattle.index_remap_proof.proofs.Lists.{place_kept}
 use Rattle.base_lists.proofs.Bools.{and_keeps}
 
--- bodies stay well typed
+-- Well-typed bodies that name only what is kept stay well typed with other indices, in a context
+-- that agrees.
 abbrev pub BodiesAreKept : Type 0
 BodiesAreKept = (m : Remap) (kept : Indices) (c d : Context) (is : List Instr) (ps rs : List ValType) → AgreesAlong m kept c d → ListLayers (LayerNamesOnly kept) is → WellTyped c is ps rs → WellTyped d (renumbered_all m is) ps rs
 
@@ -69,7 +70,7 @@ module _ (m : Remap) (kept : Indices) (t u : Module) (k : TreesAgree m kept t u)
   data_mode_kept a b (active {memory} h c) p = (k.memories memory h p.0, c _ p.1)
   data_mode_kept a b passive p = tt
 
-  -- the contexts of a function's body agree, where these functions may be named in the second
+  -- The contexts of a function's body agree if the second lets `ref.func` name the functions `bs`.
   entries_agree : (f : Func) (ft : FuncType) (bs : List Bool) → ((i : ℕ) → IsTrue (kept Functions i) → slice_get (named_of t) i ≡ Some true → slice_get bs (slice_index m.funcs i) ≡ Some true) →
       (space : Space) (called : Bool) (i : ℕ) → IsTrue (kept space i) → OperandAgrees m (body_context t f ft) (record (body_context u (new_func m f) ft) { named = bs }) space called i
   entries_agree f ft bs r Types called = k.types
@@ -90,7 +91,7 @@ module _ (m : Remap) (kept : Indices) (t u : Module) (k : TreesAgree m kept t u)
     frame = record { locals = refl; results = refl; labels = refl };
   }
 
-  -- the items that are no bodies
+  -- The items that are no bodies.
   abbrev NoBody : ItemKind → Type 0
   NoBody kind.Body = ⊥
   NoBody _ = Unit {0}

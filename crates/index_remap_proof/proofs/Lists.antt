@@ -2,7 +2,8 @@
 use Rattle.base_lists.proofs.Common.{◌≡◌, ℕ, ◌<◌, ◌≤◌, true, List, length, Some, arith, slice_get, lt-ltb, slice_get_within, slice_get_there}
 use Rattle.index_remap.specs.Prelude.{has, Keeps}
 
--- where what is at one place is at another, the other is there as well
+-- If the item at one place is also at another place of another list, that place is within the other
+-- list.
 pub place_kept : {A : Type 0} (xs ys : List A) (i j : ℕ) → Keeps (slice_get xs i) (slice_get ys j) → i < length xs → j < length ys
 place_kept xs ys i j k lt = let x = slice_get_there xs i lt in slice_get_within ys j x.0 (k x.0 x.1)
 

@@ -1,4 +1,5 @@
--- What `ref.func` names in well typed code, and code that stays well typed where other functions may be named and there are more element segments.
+-- What `ref.func` names in well typed code, and code that stays well typed where other functions
+-- may be named and there are more element segments.
 use Rattle.base_lists.proofs.Common.{◌≡◌, ℕ, Bool, true, false, nat_eq, List, [], ◌∷◌, ◌++◌, Option, Some, None, refl, sym, ap, ◌∙◌, ◌⊎◌, inl, inr, ⊎_elim, slice_get, and_then_is, either_true, left_either, same_number, among_left, among_right, keeps_map, keeps_only, only_true, flat_map-append}
 use Rattle.base_lists.specs.Members.{is_among}
 use Rattle.base_lists.proofs.Members.{among_either}
@@ -68,13 +69,14 @@ module _ (c : Context) where
 
 -- ---- other functions may be named ----
 
--- the type of a segment that is there is still that of a table
+-- An element segment that had the type of a table still has it where there are more segments.
 both_wider : (m n t : Option RefType) → Keeps m n → both m t ≡ true → both n t ≡ true
 both_wider None n t k h = cc
 both_wider (Some a) n t k h = ap (λ z. both z t) (k a refl) ∙ h
 
 module _ (c : Context) (es : List RefType) (bs : List Bool) (segments : (i : ℕ) → Keeps (slice_get c.elems i) (slice_get es i)) where
-  -- each of these functions that may be named before may be named now
+  -- Each of these functions that `ref.func` may name in the first context may be named in the
+  -- second.
   abbrev Named : List ℕ → Type 0
   Named xs = (x : ℕ) → is_among xs x ≡ true → slice_get c.named x ≡ Some true → slice_get bs x ≡ Some true
 

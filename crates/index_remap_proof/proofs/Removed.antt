@@ -1,4 +1,5 @@
--- A function may be gone from the middle of a valid tree, with no function of its type left: what is left is valid by the law.
+-- A valid tree from which a function in the middle is removed, the last of its type: what is left
+-- is valid by the law.
 use Rattle.base_lists.proofs.Common.{◌≡◌, ℕ, zero, suc, ◌<◌, Bool, true, false, IsTrue, List, [], ◌∷◌, Option, Some, None, ap, refl, true≢false, sym, arith, rules, slice_get, slice_index, pos}
 use Rattle.wasm_tree_spec.specs.Prelude.{Types, Functions, ValType, I32, FuncType, Instr, the_lemmas, Call, I32Const, Func, Export, Module, type_of_func, Layers}
 use Rattle.wasm_tree.specs.declared.instr.Instr.{out-Instr}
@@ -11,7 +12,7 @@ use Rattle.index_remap.specs.Prelude.{renumbered, Keeps}
 use Rattle.index_remap_proof.specs.Indices.{Indices, LayerNamesOnly}
 use Rattle.index_remap_proof.specs.Trees.{TreesAgree, RefsAgree, EachItemComesFrom}
 
--- what the clause `trees` of `renumbered_trees_are_valid` says
+-- The law of the clause `trees` of `renumbered_trees_are_valid`.
 abbrev TreesStayValid : Type 0
 TreesStayValid = (m : Remap) (kept : Indices) (t u : Module) → IsValid t → TreesAgree m kept t u → RefsAgree m kept t u → EachItemComesFrom m kept t u → IsValid u
 
@@ -30,14 +31,14 @@ exported func = record { name = 102 ∷ []; desc = ex.Func func }
 abbrev tree : List Func → Export → Module
 tree funcs e = record { types = gives_number ∷ gives_nothing ∷ []; imports = []; funcs = funcs; tables = []; mems = []; globals = []; exports = e ∷ []; start = None; elems = []; datas = [] }
 
--- the first function, which is exported, calls the third; nothing names the second
+-- The first function, which is exported, calls the third; nothing names the second.
 abbrev before : Module
 before = tree (code 1 (Call 2 ∷ []) ∷ code 0 (I32Const (pos 7) ∷ []) ∷ code 1 [] ∷ []) (exported 0)
 
 abbrev after : Module
 after = tree (code 1 (Call 1 ∷ []) ∷ code 1 [] ∷ []) (exported 0)
 
--- the second function has an entry as well, that of the first
+-- The second function has an entry as well, the same as the first.
 abbrev map : Remap
 map = record { types = 0 ∷ 1 ∷ []; funcs = 0 ∷ 0 ∷ 1 ∷ []; tables = []; mems = []; globals = []; elems = []; datas = [] }
 
@@ -86,7 +87,7 @@ agree = record {
   datas = λ i h lt. absurd (omega arith);
 }
 
--- an export names the first function, so that `ref.func` may name it
+-- An export names the first function, so that `ref.func` may name it.
 refs_agree : RefsAgree map kept before after
 refs_agree zero h e = refl
 refs_agree (suc zero) h e = absurd (true≢false (sym h))
@@ -111,7 +112,7 @@ each_stands kind.Body (suc zero) lt = (2, omega arith, (code 1 [], refl, (refl, 
 each_stands kind.Body (suc (suc j)) lt = absurd (omega arith)
 each_stands _ j lt = absurd (omega arith)
 
--- the first is valid
+-- The tree before the removal is valid.
 before_valid : IsValid before
 before_valid = (
   (code 1 (Call 2 ∷ []), refl, omega arith),
@@ -133,6 +134,6 @@ before_valid = (
   ),
 )
 
--- so the second is valid
+-- The law shows that the tree after the removal is valid.
 after_valid : TreesStayValid → IsValid after
 after_valid law = law map kept before after before_valid agree refs_agree each_stands

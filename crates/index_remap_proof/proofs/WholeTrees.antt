@@ -1,4 +1,5 @@
--- A valid tree with other indices: each item comes from the one that it was. And the indices that a valid tree names.
+-- A valid tree with other indices, each item of which comes from an item of the tree, and the
+-- indices that a valid tree names.
 use Rattle.base_lists.proofs.Common.{◌≡◌, ℕ, zero, suc, ◌<◌, Bool, true, ◌&&◌, List, [], ◌∷◌, ◌++◌, length, map, take, Option, Some, None, refl, sym, ap, ap₂, ◌∙◌, subst, arith, slice_get, slice_index, Contains, option_map, flat_map, filter_map, cons_option, ltb-true, length-map, map-append}
 use Rattle.base_lists.proofs.Common.{slice_get_there, map_at, map_from, list_all_each, list_all, and_then_is, left_true, right_true, only_true}
 use Rattle.base_lists.specs.Members.{is_among}
@@ -29,7 +30,7 @@ names_stay m zero xs = refl
 names_stay m (suc n) [] = refl
 names_stay m (suc n) (x ∷ xs) = ap (λ zs. x.name ∷ zs) (names_stay m n xs)
 
--- a place of a list with other indices is a place of the list
+-- An item of a list after a map is the image of an item at the same place.
 got : {A B : Type 0} (f : A → B) (xs : List A) (i : ℕ) → i < length (map f xs) → (x : A) × (slice_get xs i ≡ Some x)
 got f xs i lt = let e = length-map xs f in slice_get_there xs i (omega (arith, e))
 

@@ -1,4 +1,5 @@
--- What the parts define and what it becomes in the merged module correspond: each definition stands in the merged module at its number among all of its space.
+-- The definitions of the parts correspond to those of the merged module: each is in the merged
+-- module at its number among all definitions of its index space.
 use Rattle.wasm_tree_spec.specs.Prelude.{Functions, Tables, Memories, Globals, ElementSegments, DataSegments, Space, Module, GlobalDef, ElemSeg}
 use Rattle.merge_valid_proof.proofs.ByPart.{by_part_flat, by_part_at, by_part_back}
 use Rattle.base_lists.proofs.Common.{◌≡◌, refl, ℕ, suc, ◌+◌, List, ◌++◌, map, length, [], append-nil, ◌∷◌, Option, Some, inl, inr, arith, add-zero, add_next, zero-add, slice_get, all_there_at, is_some_there, slice_get_there, map_at, map_from, append_at_left, append_from, list_all_each, length-map}
@@ -25,7 +26,7 @@ use Rattle.merge_behaves_proof.proofs.OwnOrDefined as stand
 -- ---- the store of all parts ----
 
 module _ (env : Environment) (all : List Part) (insts : List Inst) where
-  -- each part adds something to the store
+  -- Each part can be allocated.
   abbrev pub EachAdds : ℕ → List Part → List Inst → Type 0
   EachAdds p rest is = (q : ℕ) (m : Module) (i : Inst) → module_at rest q ≡ Some m → slice_get is q ≡ Some i → (t : Store) × (part_store env all insts (p + q) m i ≡ Some t)
 
@@ -36,13 +37,14 @@ module _ (env : Environment) (all : List Part) (insts : List Inst) where
       (r.0, rw (t.1, r.1))
   stores_there s p _ _ h = (s, refl)
 
--- ---- the lists of the merged module, by part; then a function that calls starts, and a segment that declares references ----
+-- ---- the lists of the merged module, by part; then what is added to them ----
 
--- the functions that it declares
+-- The functions that the segment added by joining declares.
 abbrev pub declared_in : List Part → Mode → List ℕ
 declared_in parts mode = declared_refs (merged parts (names_of parts mode))
 
--- The definitions of a space: what those of the parts become, by part, and then others.
+-- The definitions of an index space of the merged module: the renumbered definitions of the parts,
+-- by part, and then added ones.
 pub record Joins (parts : List Part) (mode : Mode) (k : Space) {A : Type 0} (definitions : Module → List A) (new : ℕ → Module → A → A) (more : List A) : Type 0 where
   pub counts : (m : Module) → defined_count k m ≡ length (definitions m)
   pub is : definitions (joined_module parts mode) ≡ by_part_from (λ p m. map (new p m) (definitions m)) 0 parts ++ more
@@ -70,7 +72,7 @@ all_join parts mode =
 
 -- ---- one definition ----
 
--- `f` gives something for each entry of the list
+-- The function `f` gives a value for each entry of the list.
 abbrev EachThere : {A B : Type 0} → (A → Option B) → List A → Type 0
 EachThere {A} {B} f xs = (n : ℕ) (x : A) → slice_get xs n ≡ Some x → (y : B) × (f x ≡ Some y)
 
@@ -100,10 +102,11 @@ module _ (laws : Laws) (env : Environment) (parts : List Part) (mode : Mode) (ca
       items = placed_rel _ _ (λ l x at. const_rel laws env parts mode can insts j each are p m _ _ is (item_typed laws m (can.valid p m is) n e h l x at));
     }
 
-  -- ---- its place in the merged module ----
+  -- ---- the place of a definition in the merged module ----
 
   module _ {k : Space} {A : Type 0} {definitions : Module → List A} {new : ℕ → Module → A → A} {more : List A} (q : Joins parts mode k definitions new more) where
-    -- what a part defines, and what stands in the merged module for it, at its number among all
+    -- A definition of a part, and the definition that it becomes in the merged module, at its
+    -- number among all.
     module _ (p : ℕ) (m : Module) (is : module_at parts p ≡ Some m) (n : ℕ) (x : A) (h : slice_get (definitions m) n ≡ Some x) where
       becomes : slice_get (definitions J) (defined_before k parts p + n) ≡ Some (new p m x)
       becomes =
@@ -127,7 +130,8 @@ module _ (laws : Laws) (env : Environment) (parts : List Part) (mode : Mode) (ca
               partners.defined (stood p m is n x.0 x.1 at) (moved p m is n x.0 x.1 (cc)) (alike p m is n x.0 x.1)
         ]
 
-    -- `f` gives something for each definition of the merged module, if it does for what those of each part become and for those that follow
+    -- The function `f` gives a value for each definition of the merged module, if it does for the
+    -- renumbered definitions of each part and for those that are added.
     merged_there : {B : Type 0} (f : A → Option B) → ((p : ℕ) (m : Module) → module_at parts p ≡ Some m → EachThere (λ x. f (new p m x)) (definitions m)) → EachThere f more → EachThere f (definitions J)
     merged_there f part last n x h = elim (append_from _ more n x (rw q.is at h)) [
       | inl g ↦
@@ -150,9 +154,9 @@ module _ (laws : Laws) (env : Environment) (parts : List Part) (mode : Mode) (ca
     datas = partner joins.datas (λ p m is n x h. refl);
   }
 
-  -- ---- both stores are there, or neither ----
+  -- ---- both stores exist, or neither ----
 
-  -- each function of a valid module is allocated, since its type is among those of the module
+  -- Each function of a valid module can be allocated, since its type is among those of the module.
   funcs_there : (m : Module) (i : Inst) → IsValid m → i.types ≡ m.types → EachThere (new_func i) m.funcs
   funcs_there m i valid types n f h =
       is_some_there (new_func i f) (grind (arith, slice_get_there i.types f.ty (rw types (func_typed laws m valid n f h))))
@@ -165,7 +169,7 @@ module _ (laws : Laws) (env : Environment) (parts : List Part) (mode : Mode) (ca
       (funcs_there J j (laws.valid parts mode can) (is_inst laws env J j are).types)
       (merged_there joins.globals _ (λ p m is n g h. right_there (global_rel R _ _ (globals_alike p m is n g h)) ((laws.placed env v s made).globals (stood joins.globals p m is n g h refl)).2) (λ n x h. cc))
       (merged_there joins.elems _ (λ p m is n e h. right_there (elem_rel R _ _ (elems_alike p m is n e h)) ((laws.placed env v s made).elems (stood joins.elems p m is n e h refl)).2)
-      -- the segment that declares references is allocated
+      -- The segment that declares references can be allocated.
       (λ n e h. let r = all_there_at _ _ _ last.1 n e h in (r.0, r.1))) in
       is_some_there _ (grind (arith, whole)))
       (λ z made. stores_there env parts insts (own_store env) 0 parts insts (λ p m i is there.

@@ -1,4 +1,5 @@
--- The instances of the parts, and the instance of the merged module: all there or none, and each index of a part and its new one name one address.
+-- The instances of the parts and the instance of the merged module: all exist or none, and each
+-- index of a part and its new index name one address.
 use Rattle.base_lists.proofs.Common.{◌≡◌, ◌∙◌, ap, sym, refl, ℕ, ◌+◌, ◌<◌, ◌≤◌, List, [], ◌∷◌, ◌++◌, map, length, Option, Some, None, arith, option_and_then, slice_get, true, slice_index, length-append, same_Some, place_there, length-numbers, numbers_at, map_numbers_index, is_some_there}
 use Rattle.base_lists.proofs.Common.{and_then_is, all_there_at, all_there_length, all_there_from, slice_get_there, append_right, slice_index_is, suc, zero-add, add-zero, append_at_left, length-map, add_next, places_many}
 use Rattle.base_lists.proofs.Options.{AllThere}
@@ -20,7 +21,7 @@ use Rattle.merge_behaves_proof.proofs.MergedAlone.{joined_keeps, joined_types, s
 
 -- ---- an instance, and all instances ----
 
--- the addresses that an instance has for a space
+-- The addresses that an instance has for an index space.
 abbrev pub addresses_in : Space → Inst → List ℕ
 addresses_in Types i = []
 addresses_in Functions i = i.funcs
@@ -53,18 +54,18 @@ module _ (parts : List Part) (p : ℕ) (m : Module) (k : Space) (ext : is_extern
       let globals : length (imports_of Globals m) ≡ length (imported_globals m.imports) = places_many _ _ m.imports (grind arith) 0 in
       grind (arith, length-append, length-map, funcs, tables, mems, globals)
 
-  -- what a map has for an index
+  -- The entry of a part's map for an index is its new index.
   pub entry_is : (x : ℕ) → x < length (entries (map_of parts p m) k) → slice_index (entries (map_of parts p m) k) x ≡ new_index parts p k x
   entry_is x l = grind (arith, map_is, map_numbers_index, length-map, length-numbers)
 
--- ---- all there or none ----
+-- ---- all instances exist, or none ----
 
--- an instance is there where its index spaces are
+-- The instance of a part exists if its index spaces do.
 all_spaces : (env : Environment) (q : List Part) (p : ℕ) (m : Module) → ((k : Space) → is_external k ≡ true → (xs : List ℕ) × (space env q k p m ≡ Some xs)) → (i : Inst) × (inst_of env q p m ≡ Some i)
 all_spaces env q p m there = is_some_there (inst_of env q p m) (grind (arith, there Functions refl, there Tables refl, there Memories refl, there Globals refl))
 
 module _ (laws : SpaceLaws) (env : Environment) (parts : List Part) (linked : link_fault parts true ≡ None) (mode : Mode) where
-  -- an import that stays is one of its part
+  -- The staying imports have addresses if the parts have instances.
   staying_there : (insts : List Inst) → insts_from env parts 0 parts ≡ Some insts → (k : Space) → is_external k ≡ true → AllThere (site_address env parts k) (staying_of parts k)
   staying_there insts h k ext = all_there_from (site_address env parts k) (staying_of parts k) (λ n s at.
       let w = staying_kind laws parts k n s at in
@@ -80,24 +81,26 @@ module _ (laws : SpaceLaws) (env : Environment) (parts : List Part) (linked : li
   -- ---- the addresses of a space ----
 
   module _ (j : Inst) (there : IsInst env (one J) 0 J j) (k : Space) (ext : is_external k ≡ true) where
-    -- those of the imports that stay, and then of what the merged module defines
+    -- The addresses of an index space of the merged module: those of the staying imports, followed
+    -- by those of its definitions.
     merged_part : (xs : List ℕ) × (all_there (site_address env parts k) (staying_of parts k) ≡ Some xs) × (Some (xs ++ numbers (own_count k env) (total env parts k + added_count parts k)) ≡ Some (addresses_in k j))
     merged_part =
         let is : space env (one J) k 0 J ≡ Some (addresses_in k j) = grind arith in
         and_then_is _ _ _ (rw (merged_space laws env parts linked mode k ext) at is)
 
-    -- what the merged module defines comes after its imports
+    -- A definition of the merged module has its address after those of the imports.
     pub own_at : (d : ℕ) → d < total env parts k + added_count parts k → slice_get (addresses_in k j) (length (staying_of parts k) + d) ≡ Some (own_count k env + d)
     own_at d low = grind (arith, merged_part.1, merged_part.2, all_there_length, append_right merged_part.0, numbers_at (own_count k env))
 
-    -- what an entry of a part stands for has an address that both worlds have, and the merged module's index names it
+    -- The entity that an entry of a part denotes has an address that both worlds have, and the
+    -- merged module's index names it.
     stands_at : {o : Option ℕ} {index : ℕ} → Stands env parts k o index → (a : ℕ) × (o ≡ Some a) × (slice_get (addresses_in k j) index ≡ Some a) × (a < shared_count env parts k)
     stands_at (own d l e i) = (own_count k env + d, e, grind (arith, own_at d), omega arith)
     stands_at {index = index} (stays u h e) =
         let r = all_there_at _ _ merged_part.0 merged_part.1 index u h in
         (r.0, e ∙ r.1, grind (arith, merged_part.2, append_at_left, r.2), site_low env parts laws.own k u r.0 r.1)
 
-  -- ---- instances that are there ----
+  -- ---- instances that exist ----
 
   part_agrees : (p : ℕ) (m : Module) (i j : Inst) → module_at parts p ≡ Some m → IsInst env parts p m i → IsInst env (one J) 0 J j → PartAgrees env parts p m i j
   unfolding map_of
@@ -135,7 +138,7 @@ module _ (laws : SpaceLaws) (env : Environment) (parts : List Part) (linked : li
             record { address = first + x; first = at; second = grind (arith, slice_index_is _ x _ at, numbers_at 0 n); shared = omega arith };
       }
 
--- the instances of parts that can be joined, and that of the merged module
+-- If parts can be joined, their instances and that of the merged module agree, or neither exist.
 pub instances_agree : SpaceLaws → (env : Environment) (parts : List Part) (mode : Mode) → CanBeJoined parts mode → OptRel (InstancesAgree env parts) (insts_from env parts 0 parts) (insts_from env (one (joined_module parts mode)) 0 (one (joined_module parts mode)))
 instances_agree laws env parts mode can = both_or_none _ _
     (λ insts js h g.
@@ -161,7 +164,8 @@ instances_agree laws env parts mode can = both_or_none _ _
 
 -- ---- parts with their instances ----
 
--- Induction along the parts and their instances: what holds where no part is left, and holds of a part and all after it if it holds of those after it, holds of all parts.
+-- An induction along the parts and their instances: a property holds of all parts if it holds of no
+-- parts, and of a part and those after it if it holds of those after it.
 module _ {env : Environment} {parts : List Part} {insts js : List Inst} (agree : InstancesAgree env parts insts js) (P : ℕ → List Part → List Inst → Type 0) (none_left : (p : ℕ) (is : List Inst) → P p [] is)
     (before : (p : ℕ) (part : Part) (i : Inst) (rest : List Part) (is : List Inst) → module_at parts p ≡ Some part.«module» → PartAgrees env parts p part.«module» i agree.merged → P (suc p) rest is → P p (part ∷ rest) (i ∷ is)) where
   from : (p : ℕ) (rest : List Part) (is : List Inst) → ((q : ℕ) → (module_at parts (p + q) ≡ module_at rest q) × (slice_get insts (p + q) ≡ slice_get is q)) → P p rest is

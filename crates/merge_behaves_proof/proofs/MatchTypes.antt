@@ -1,4 +1,5 @@
--- The external type of an entity of the store (WebAssembly Core 2.0, section 4.5.1), when it is what an import asks for, and limits that are asked for together.
+-- The external type of an entity of the store (WebAssembly Core 2.0, section 4.5.1), whether it
+-- fits what an import asks for, and the limits that several imports ask for together.
 use Rattle.base_lists.proofs.Common.{◌≡◌, ℕ, List, length, Option, Some, None, true, false, refl, ◌∙◌, option_map, slice_get, unwrap_or, [], ◌∷◌, Bool, cond, arith, ◌&&◌, is_some_there, nat_tests, list_all_each, list_all_from, length_rel, same_there, there, then_eq, each_same_is}
 use Rattle.base_lists.specs.Options.{◌>>=◌}
 use Rattle.std.specs.List.{cons_option}
@@ -10,23 +11,25 @@ use Rattle.merge_valid_proof.specs.Ended.{SitesAreImports}
 
 -- ---- the external type of an entity ----
 
--- with the actual size and the maximum as limits
+-- The external type of an external value in a store: the limits of a table or memory are its actual
+-- size and its maximum.
 abbrev pub type_in : Store → ExternalValue → Option External
 type_in s (FuncAt a) = type_at s a >>= λ t. Some (FuncOf t)
 type_in s (TableAt a) = slice_get s.tables a >>= λ u. Some (TableOf (record { ty = u.ty; limits = record { min = length u.slots; max = u.most } }))
 type_in s (MemoryAt a) = slice_get s.mems a >>= λ u. Some (MemoryOf (record { min = u.pages; max = u.most }))
 type_in s (GlobalAt a) = slice_get s.globals a >>= λ g. Some (GlobalOf g.ty)
 
--- whether there is a type that is what is asked for except for limits, and meets the limits that are asked for
+-- Whether a type exists that is the one asked for except for limits, and meets the limits that are
+-- asked for.
 abbrev pub fits_type : (demand : External) → Option External → Bool
 fits_type demand o = unwrap_or (option_map (λ type. same_but_limits demand type && meets_limits demand type) o) false
 
--- the type fits what is asked for
+-- The external type fits the one that is asked for.
 pub record Fits (demand type : External) : Type 0 where
   pub same : same_but_limits demand type ≡ true
   pub meets : meets_limits demand type ≡ true
 
--- what an import denotes has a type that is asked for
+-- The external value that an import denotes exists and has a type that fits the one asked for.
 pub record FitsAt (s : Store) (demand : External) (o : Option ExternalValue) : Type 0 where
   pub thing : ExternalValue
   pub is : o ≡ Some thing
@@ -36,7 +39,7 @@ pub record FitsAt (s : Store) (demand : External) (o : Option ExternalValue) : T
 
 -- ---- by kind ----
 
--- related entities of related stores have one type
+-- Related entities of related stores have the same external type.
 pub type_same : {R : Pairing} {s z : Store} → StoreRel R s z → {th ts : ExternalValue} → ExternalValueRel R th ts → type_in s th ≡ type_in z ts
 type_same like (a_func r) = rw (same_there (like.types r)) refl
 type_same like (a_table r) = then_eq (there (like.tables r)) (λ _ _ r. cc (length_rel r.slots))
@@ -50,13 +53,13 @@ limits_in (TableOf t) = Some t.limits
 limits_in (MemoryOf l) = Some l
 limits_in _ = None
 
--- the same, with other limits
+-- The same external type, with other limits.
 abbrev pub kept : External → Limits → External
 kept (TableOf t) l = TableOf (record t { limits = l })
 kept (MemoryOf k) l = MemoryOf l
 kept x l = x
 
--- where limits imply others, what fits with the ones fits with the others
+-- If some limits imply others, a type that fits with the former fits with the latter.
 pub fits_kept : (d e : External) (o : Option External) (l : Limits) → same_but_limits d e ≡ true → fits_type (kept e l) o ≡ true →
     ((k : Limits) → limits_in d ≡ Some k → (size : ℕ) (most : Option ℕ) → meets size most l ≡ true → meets size most k ≡ true) → fits_type d o ≡ true
 fits_kept (FuncOf t) (FuncOf u) o l same f implied = (let is : t ≡ u = grind (arith, each_same_is same_type (λ a b e. grind arith)) in rw is f)
@@ -64,20 +67,21 @@ fits_kept d e o l same f implied = grind arith
 
 -- ---- an import by its site ----
 
--- the limits that an import asks for are those of the external type that it asks for
+-- The limits of an import's description are those of the external type that the import asks for.
 pub site_limits : (parts : List Part) (t : Site) (i : Import) (x : External) → import_at parts t ≡ Some i → asked_at parts t ≡ Some x → limits_of i.desc ≡ limits_in x
 site_limits parts t i x at asks = grind arith
 
 module _ (env : Environment) (parts : List Part) (s : Store) (t : Site) (i : Import) (x : External) (at : import_at parts t ≡ Some i) (asks : asked_at parts t ≡ Some x) where
-  -- it matches if the type of what it denotes fits what it asks for
+  -- An import matches exactly if the type of the external value that it denotes fits what it asks
+  -- for.
   pub matched_is : is_matched env parts s t ≡ fits_type x (imported_external_value env parts t >>= type_in s)
   matched_is = grind arith
 
-  -- where all imports match, that type fits
+  -- If all imports match, the type of the external value that an import denotes fits.
   pub type_fits : SitesAreImports → all_of (is_matched env parts s) (sites parts) ≡ true → fits_type x (imported_external_value env parts t >>= type_in s) ≡ true
   type_fits sites_are all = let n = (sites_are parts t).1 i at in rw matched_is at (list_all_each _ _ all n.0 t n.1)
 
-  -- and what it denotes, and the type of that, are there
+  -- If all imports match, each import denotes an external value, and this has a type.
   pub site_fits : SitesAreImports → all_of (is_matched env parts s) (sites parts) ≡ true → FitsAt s x (imported_external_value env parts t)
   site_fits sites_are all =
       let f = type_fits sites_are all in
@@ -85,10 +89,10 @@ module _ (env : Environment) (parts : List Part) (s : Store) (t : Site) (i : Imp
       let y = is_some_there (type_in s k.0) (grind arith) in
       record { thing = k.0; is = k.1; type = y.0; typed = y.1; fits = grind arith }
 
--- ---- limits that several imports ask for together: they are met exactly where those of each are ----
+-- ---- limits that several imports ask for together are met exactly if those of each are ----
 
 module _ (size : ℕ) (most : Option ℕ) where
-  -- where something is demanded, it is met
+  -- If the test holds and there are limits, the limits are met.
   abbrev met_if : Bool → Option Limits → Bool
   met_if b o = cond b (unwrap_or (option_map (meets size most) o) true) true
 
@@ -96,7 +100,7 @@ module _ (size : ℕ) (most : Option ℕ) where
   consed_met b o ls = grind (arith, nat_tests)
 
   module _ (parts : List Part) (s : Site) where
-    -- if the import at the site ends at `s`, the limits that it asks for are met
+    -- If the import at the site ends at `s`, the limits that it asks for are met.
     abbrev site_met : Site → Bool
     site_met t = met_if (is_outside s (linked_end parts t)) (import_at parts t >>= λ i. limits_of i.desc)
 
@@ -104,7 +108,8 @@ module _ (size : ℕ) (most : Option ℕ) where
     demands_met [] = grind (arith, nat_tests)
     demands_met (t ∷ ts) = rw (← demands_met ts) (consed_met _ _ (demands parts s ts))
 
--- what fits also fits with the limits that are asked for together, where it fits what each import asks for that ends at the staying one
+-- A type that fits also fits with the limits that are asked for together, if it fits what each
+-- import asks for that ends at the staying one.
 pub kept_fits : (parts : List Part) (s : Site) (d : External) (o : Option External) → fits_type d o ≡ true →
     ((t : Site) (i : Import) → import_at parts t ≡ Some i → is_outside s (linked_end parts t) ≡ true → (x : External) × (asked_at parts t ≡ Some x) × (fits_type x o ≡ true)) → fits_type (kept d (met_limits parts s)) o ≡ true
 kept_fits parts s d o f each =

@@ -1,4 +1,4 @@
--- All imports of the parts match where all imports of the merged module do.
+-- All imports of the parts match exactly if all imports of the merged module do.
 use Rattle.base_lists.proofs.Common.{◌≡◌, ℕ, ◌+◌, ◌-◌, ◌≤◌, List, ◌++◌, length, Some, refl, sym, arith, Option, None, true, option_and_then, slice_get, and_then_is, map_from, append_right, same_tests, is_kept, chosen_from, has_chosen, list_all_each, list_all_from, map, map-id, copies_length}
 use Rattle.base_lists.proofs.Common.{then_eq, numbers_at, ◌<◌, places_many}
 use Rattle.std.proofs.Common.{eq-eqb}
@@ -19,7 +19,7 @@ use Rattle.merge_behaves_proof.proofs.Counterparts.{outside_rel}
 use Rattle.merge_behaves_proof.proofs.MergedAlone.{IsStaying, staying_is, import_is, moved_thing, joined_types, joined_imports}
 use Rattle.wasm_tree.specs.declared.module.ExportDesc.TheVariants as ex
 
--- ---- what a part defines has the external type that its module says: what is allocated for it has its type, its least size and its maximum ----
+-- ---- the external types of the entities that a part defines ----
 
 module _ (env : Environment) (w : Instantiated) (s : Store) (has : HasDefinitions env w s) (q : ℕ) (m : Module) (i : Inst) (is : module_at w.parts q ≡ Some m) (there : slice_get w.insts q ≡ Some i) (types : i.types ≡ m.types) where
   abbrev place : Space → ℕ → ℕ
@@ -28,7 +28,8 @@ module _ (env : Environment) (w : Instantiated) (s : Store) (has : HasDefinition
   abbrev address : Space → ℕ → ℕ
   address k n = base env w.parts k q + place k n
 
-  -- what is found at an index after the imports belongs to a definition of the module, and is found of that definition
+  -- An index after the imports belongs to a definition of the module, and what is looked up for the
+  -- index is that of the definition.
   abbrev defined : (k : Space) {A B C : Type 0} (definitions : Module → List A) (entry : A → B) (imported : List B) (found : B → Option C) {entries : List B} {n : ℕ} {x : C} → length (imports_of k m) ≡ length imported → entries ≡ map entry (definitions m) →
       length (imports_of k m) ≤ n → option_and_then found (slice_get (imported ++ entries) n) ≡ Some x → (d : DefinedAt env w k definitions (address k n)) × (found (entry d.definition) ≡ Some x)
   defined k definitions entry imported found {entries} {n} {x} many are le h =
@@ -70,7 +71,7 @@ module _ (laws : SpaceLaws) (env : Environment) (parts : List Part) (linked : li
   abbrev whole : Module
   whole = joined_module parts mode
 
-  -- the type of what a staying import denotes
+  -- The external type of the external value that a staying import denotes.
   abbrev own_type : Store → Site → Option External
   own_type s u = option_and_then (type_in s) (outside_external_value (owned_of env) parts u)
 
@@ -78,7 +79,8 @@ module _ (laws : SpaceLaws) (env : Environment) (parts : List Part) (linked : li
     abbrev AllMatch : Type 0
     AllMatch = all_of (is_matched env parts s) (sites parts) ≡ true
 
-    -- where all imports match, the type of what a staying import denotes fits what each import asks for that ends at it
+    -- If all imports match, the type of the external value that a staying import denotes fits what
+    -- each import asks for that ends at it.
     ends_at : AllMatch → (u t : Site) (i : Import) → import_at parts t ≡ Some i → linked_end parts t ≡ Some (Outside u) → (demand : External) × (asked_at parts t ≡ Some demand) × (fits_type demand (own_type s u) ≡ true)
     ends_at all u t i at h =
         elim (laws.ends parts linked t i at) [
@@ -88,11 +90,12 @@ module _ (laws : SpaceLaws) (env : Environment) (parts : List Part) (linked : li
 
     -- ---- an import that stays, in the merged module ----
 
-    -- it asks for the same, with the limits that are asked for together, and matches where the type of what it denotes fits
+    -- A staying import asks for the same in the merged module, with the limits that are asked for
+    -- together, and matches exactly if the type of the external value that it denotes fits.
     site_matched : (u : Site) (w : IsStaying parts u) (y : External) → asked_at parts u ≡ Some y → (n : ℕ) → slice_get whole.imports n ≡ Some (record w.import { desc = merged_desc parts u w.of w.import.desc }) →
         is_matched env (one whole) z (site n) ≡ fits_type (kept y (met_limits parts u)) (own_type s u)
     site_matched u w y asks n stands =
-        -- the environment's own has one type in both stores
+        -- The environment's own entity has one type in both stores.
         let own_same = then_eq (outside_rel env parts laws.own u) (λ _ _. type_same like) in
         grind (arith, matched_is env (one whole) z (site n) _ (kept y (met_limits parts u)) stands, laws.things env whole n, joined_types parts mode, laws.types parts u.part w.of, moved_thing laws env parts linked u w)
 
@@ -107,7 +110,7 @@ module _ (laws : SpaceLaws) (env : Environment) (parts : List Part) (linked : li
         let w = staying_is laws parts c.1.0 u c.1.1 in
         let y = ends_at all u u w.import w.at (laws.stays parts linked u w.import w.at w.remains).1 in
         rw (only, site_matched u w y.0 y.1 t.import (grind (arith, import_is parts u w)))
-        -- the limits of what it denotes meet those that are asked for together
+        -- The limits of the entity that the import denotes meet those that are asked for together.
         (kept_fits parts u y.0 (own_type s u) y.2 (λ t i at h. ends_at all u t i at (linked_to parts u t h))))
 
     module _ (insts js : List Inst) (agree : InstancesAgree env parts insts js) (made : stores_from env parts insts (own_store env) 0 parts insts ≡ Some s) where

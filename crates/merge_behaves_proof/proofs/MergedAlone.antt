@@ -1,4 +1,5 @@
--- The merged module alone: its imports are those that stay, and denote what these denote in the parts' world; then comes what the parts define.
+-- The merged module alone: its imports are those that stay, and denote the same external values as
+-- in the parts' world; the definitions of the parts follow them.
 use Rattle.base_lists.proofs.Common.{◌≡◌, ◌∙◌, refl, sym, append-nil, ℕ, ◌+◌, List, [], ◌∷◌, ◌++◌, length, Option, Some, None, true, arith, option_and_then, slice_get, filter_map, length-map, kept_is, and_then_is}
 use Rattle.wasm_tree_spec.specs.Prelude.{Space, Functions, DataSegments, ElementSegments, Import, Module}
 use Rattle.wasm_meaning.specs.Prelude.{Text, Part, Site, has_kind, module_at, import_at, sites, Environment, owned_of, own_count, defined_before, address_of, outside_external_value, all_there, numbers, space}
@@ -18,7 +19,7 @@ use Rattle.base_lists.proofs.Filtered.{at_places, of_chosen}
 
 -- ---- with references declared ----
 
--- the names of the merged module's exports
+-- The names of the merged module's exports.
 abbrev pub names_of : List Part → Mode → List (Option Text)
 names_of parts mode = new_names mode (export_names parts)
 
@@ -66,7 +67,7 @@ pub record IsStaying (parts : List Part) (s : Site) : Type 0 where
   pub is_part : module_at parts s.part ≡ Some of
   pub stands : slice_get of.imports s.import ≡ Some import
 
--- as it stands in the merged module
+-- A staying import becomes this import of the merged module.
 pub import_is : (parts : List Part) (s : Site) (w : IsStaying parts s) → merged_import parts s ≡ Some (record w.import { desc = merged_desc parts s w.of w.import.desc })
 unfolding merged_import
 import_is parts s w = rw (w.is_part, w.stands) refl
@@ -79,7 +80,7 @@ staying_is laws parts n s h =
     let m = and_then_is (module_at parts s.part) _ i.0 i.1 in
     record { import = i.0; at = i.1; remains = k.0; of = m.0; is_part = m.1; stands = m.2 }
 
--- those of one kind
+-- The staying imports of one kind are staying imports of that kind.
 pub staying_kind : SpaceLaws → (parts : List Part) (k : Space) (n : ℕ) (s : Site) → slice_get (staying_of parts k) n ≡ Some s → (w : IsStaying parts s) × (has_kind k w.import ≡ true)
 unfolding staying_of
 staying_kind laws parts k n s h =
@@ -89,13 +90,14 @@ staying_kind laws parts k n s h =
 
 module _ (laws : SpaceLaws) (env : Environment) (parts : List Part) (linked : link_fault parts true ≡ None) where
   module _ (s : Site) (w : IsStaying parts s) where
-    -- in the merged module it denotes what it denotes in the parts' world
+    -- In the merged module, a staying import denotes the external value that it denotes in the
+    -- parts' world.
     pub moved_thing : external_value_in env (merged_types parts) (Some (record w.import { desc = merged_desc parts s w.of w.import.desc })) ≡ outside_external_value (owned_of env) parts s
     moved_thing =
         let ended = laws.ends parts linked s w.import w.at in
         grind (arith, laws.types parts s.part w.of)
 
-  -- the imports of the merged module have the addresses of the imports that stay
+  -- The imports of the merged module have the addresses of the imports that stay.
   chosen_addresses : (k : Space) → addresses env (merged_types parts) (filter_map (merged_import parts) (staying parts)) k ≡ all_there (site_address env parts k) (staying_of parts k)
   unfolding staying_of
   chosen_addresses k =
@@ -104,7 +106,8 @@ module _ (laws : SpaceLaws) (env : Environment) (parts : List Part) (linked : li
       let w = staying_is laws parts n s h in
       (_, import_is parts s w, grind arith, λ q. grind (arith, moved_thing s w)))
 
-  -- the index spaces of the merged module: the addresses of the imports that stay, and then of what it defines
+  -- The index spaces of the merged module: the addresses of the staying imports, followed by those
+  -- of its definitions.
   pub merged_space : (mode : Mode) (k : Space) → is_external k ≡ true →
       space env (one (joined_module parts mode)) k 0 (joined_module parts mode) ≡ option_and_then (λ l. Some (l ++ numbers (own_count k env) (defined_before k parts (length parts) + added_count parts k))) (all_there (site_address env parts k) (staying_of parts k))
   merged_space mode k e =

@@ -1,4 +1,5 @@
--- What the indices, the exports and the view of the parts name, and what the merged module's name.
+-- The entities that the indices, the exports and the view of the parts name correspond to those
+-- that the merged module's name.
 use Rattle.base_lists.proofs.Common.{◌≡◌, refl, ℕ, suc, ◌+◌, List, [], ◌∷◌, map, Some, true, arith, add-zero, zero-add, Option, IsTrue, list_all, ltb-true, slice_get_there, length-map, append_rel, then_rel, add_next}
 use Rattle.wasm_tree_spec.specs.Prelude.{Module, Types, Functions, Tables, Memories, Globals, ElementSegments, DataSegments, Func, Export}
 use Rattle.wasm_meaning.specs.Prelude.{Part, module_at, Entity, Inst, Text, Environment, seen_as, alone}
@@ -17,7 +18,7 @@ use Rattle.merge_spec.specs.View.{all_entities, named_entities, merge_view}
 use Rattle.merge_behaves_proof.proofs.MergedAlone.{joined_exports, names_of as names_in}
 use Rattle.world_simulation.proofs.Renamed as renamed
 
--- each map of a part has an entry for each index that the part names
+-- The map of each part has an entry for each index that the part names.
 abbrev pub AllFit : List Part → Type 0
 AllFit parts = (p : ℕ) (m : Module) → module_at parts p ≡ Some m → IsTrue (fits_tree (map_of parts p m) m)
 
@@ -31,7 +32,7 @@ by_part_rel : {A B : Type 0} {P : A → B → Type 0} (f : ℕ → Module → Li
 by_part_rel f g first [] h = nil
 by_part_rel f g first (part ∷ parts) h = append_rel (rw add-zero at (h 0 part.«module» refl)) (by_part_rel f g (suc first) parts (λ q. rw (← add_next) (h (suc q))))
 
--- ---- what the indices of a part name, and their entries in its map; and the functions that the part defines ----
+-- ---- the indices of a part and their entries in its map; the functions that the part defines ----
 
 module _ (env : Environment) (parts : List Part) (p : ℕ) (m : Module) (i j : Inst) (k : PartAgrees env parts p m i j) where
   abbrev R : Pairing
@@ -55,12 +56,12 @@ module _ (env : Environment) (parts : List Part) (p : ℕ) (m : Module) (i j : I
       let of = is_shared env parts in
       record { type = entries_name Types f.ty (grind arith); locals = refl; code = laws.code of of [] r i j f.body (laws.named of of [] r i j entries_name f.body (grind arith)) }
 
--- ---- the view of the linked parts, and that of the merged module: the same names, each for one entity ----
+-- ---- the views of the linked parts and of the merged module: the same names and entities ----
 
 abbrev entity : ℕ → Export → Entity
 entity p e = record { part = p; what = e.desc }
 
--- an export as an embedder sees it of a module alone
+-- An export as an embedder sees it of a module alone.
 abbrev seen_export : Export → Text × Entity
 seen_export e = (e.name, entity 0 e)
 
@@ -68,7 +69,8 @@ module _ (env : Environment) (parts : List Part) (fit : AllFit parts) (insts js 
   abbrev pub AreSeenAlike : Text × Entity → Text × Entity → Type 0
   AreSeenAlike v w = OptRel (KeyRel (sharing env parts)) (seen_as insts v) (seen_as js w)
 
-  -- an entity of a part and an export of the merged module name one thing, whatever they are called
+  -- An entity of a part and an export of the merged module denote the same external value, under
+  -- any name.
   abbrev Sees : Entity → Export → Type 0
   Sees e x = (name : Text) → AreSeenAlike (name, e) (name, entity 0 x)
 

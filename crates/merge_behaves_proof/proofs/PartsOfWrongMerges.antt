@@ -1,4 +1,5 @@
--- The parts of the wrong merges can be joined, so that the law `merged_module_equivalent` speaks of them: a merge that gives a wrong module breaks it.
+-- The parts of the wrong merges can be joined, so that the law `merged_module_equivalent` applies
+-- to them: a merge that gives a wrong module breaks it.
 use Rattle.base_lists.proofs.Common.{◌≡◌, ◌∙◌, refl, sym, subst, ℕ, List, [], ◌∷◌, Some, None, arith, true, ◌+◌, ◌<◌, ◌^◌, unwrap_or, option_map}
 use Rattle.wasm_tree.specs.declared.types.ValType.TheVariants as valt
 use Rattle.wasm_tree_spec.specs.Prelude.{roll-out-Instr, items_shown-the_row-Instr-0, end_of-Instr, more_of-Instr, Loop', Module, Space}
@@ -22,21 +23,24 @@ use Rattle.merge_valid_proof.specs.Joinable.{EachPart, CanBeJoined}
 use Rattle.merge_behaves_proof.specs.Laws.{ObservationallyEquivalent}
 use Rattle.merge_behaves_proof.proofs.WrongMerges.{f, g, starting, calling, one_memory_from, never_ending, Example, two_starts, two_types, one_memory, no_end, case, given_as, parts_of, no_fault, joins, Mistake, wrong, mistakes_are_refused}
 
--- ---- what is common ----
+-- ---- shared definitions ----
 
--- what holds of the two modules holds of each part
+-- A property of the two modules of an example holds of each of its parts.
 of_both : (P : Module → Type 0) (e : Example) → P (case e).first × P (case e).second → EachPart P (parts_of e)
 of_both P e both p m is = grind arith
 
--- what the law `merged_module_equivalent` says, with this merge in the place of `joined_module`
+-- The statement of the law `merged_module_equivalent`, for this merge in the place of
+-- `joined_module`.
 abbrev HasEqualTraces : (List Part → Mode → Module) → Type 0
 HasEqualTraces merge = (parts : List Part) (how : Mode) → CanBeJoined parts how → ObservationallyEquivalent parts how (merge parts how)
 
--- no merge that gives this module for these parts satisfies it
+-- No merge that gives this module for these parts satisfies the law.
 abbrev BreaksTheLaw : List Part → Module → Type 0
 BreaksTheLaw parts wrong = (merge : List Part → Mode → Module) → merge parts mode.Refuse ≡ wrong → HasEqualTraces merge → ⊥
 
--- What `join` asks of parts and their links, so that it has to give a module for them. A body that gives this one does not meet the clause `same`, since it is not equivalent to the parts.
+-- The premises of `join` hold of the parts and their links, so `join` must give a module for them.
+-- A body that gives this module breaks the clause `same`, since the module is not equivalent to the
+-- parts.
 record BreaksTheClause (given : List given.Part) (wrong : Module) : Type 0 where
   joinable : CanBeJoined (named_modules given) mode.Refuse
   links : Links
@@ -45,14 +49,15 @@ record BreaksTheClause (given : List given.Part) (wrong : Module) : Type 0 where
   few : FewInAll (named_modules given)
   refused : ObservationallyEquivalent (named_modules given) mode.Refuse wrong → ⊥
 
--- the module that this mistake gives breaks both the law and the clause
+-- The module that this mistake gives breaks both the law and the clause.
 abbrev Breaks : Mistake → Type 0
 Breaks w = BreaksTheLaw (parts_of (wrong w).parts) (wrong w).tree × BreaksTheClause (given_as (wrong w).parts) (wrong w).tree
 
--- ---- what is computed ----
+-- ---- computed links and counts ----
 
--- The links of parts whose imports all have an end. In the examples each import that stays is its own end, without limits and with nothing read; only the two imports of one memory both
--- end at the first, which keeps the greater minimum.
+-- The links of parts whose imports all have an end. In the examples each staying import is its own
+-- end, without limits and with nothing read; only the two imports of one memory both end at the
+-- first, which keeps the greater minimum.
 abbrev links_of : List Part → Links
 links_of parts = record {
   ends = by_import (λ s. unwrap_or (option_map end_entry (linked_end parts s)) (Outside 0 0)) parts;
@@ -63,18 +68,19 @@ links_of parts = record {
 are_links : (e : Example) → AreLinks (parts_of e) (links_of (parts_of e))
 are_links e = grind arith
 
--- of each kind, what is imported, defined and at most added is less than 2 ^ 32
+-- The entities of each kind that are imported, defined and at most added are fewer than 2 ^ 32.
 few : (e : Example) (k : Space) → count_of (imports_kind (parts_of e) k) (sites (parts_of e)) + (defined_before k (parts_of e) 2 + most_added k) < 2 ^ 32
 few e k = grind arith
 
 -- ---- the parts are valid ----
 
--- its import, its function, its start and the body of the function
+-- The items of the module: its import, its function, its start and the body of the function.
 starting_is_valid : (field : Text) → IsValid (starting field)
 starting_is_valid field = ((_, refl, omega arith), ((_, refl, omega arith), ((_, _, refl, refl, refl, refl), ((_, _, refl, refl, ([], (_, (_, refl, ([], _, refl, tt, refl)), refl), tt)), tt))))
 
--- its import, its function, its table, its start, its element segment, whose one item is a function, and the body of the function, with one operand after the first of its four
--- instructions, and then two, one and none
+-- The items of the module: its import, its function, its table, its start, its element segment,
+-- whose one item is a function, and the body of the function, with one operand after the first of
+-- its four instructions, and then two, one and none.
 calling_is_valid : IsValid calling
 calling_is_valid = (
   (_, refl, omega arith),
@@ -102,7 +108,7 @@ calling_is_valid = (
   ),
 )
 
--- its function, its start and the body of the function
+-- The items of the module: its function, its start and the body of the function.
 never_ending_is_valid : IsValid never_ending
 never_ending_is_valid =
     let is : Loop' bt.Empty (_ ∷ []) (more_of-Instr (i.Br 0) end_of-Instr) ≡ i.Loop bt.Empty (i.Br 0 ∷ []) = sym (roll-out-Instr (Loop' bt.Empty (_ ∷ []) (more_of-Instr (i.Br 0) end_of-Instr))) ∙ simp (outs-Loop', rolls-Loop, items_shown-the_row-Instr-0) in
@@ -118,13 +124,13 @@ valid two_types = of_both IsValid two_types (tt, calling_is_valid)
 valid one_memory = of_both IsValid one_memory (memory_is_valid 0 (omega arith), memory_is_valid 1 (omega arith))
 valid no_end = of_both IsValid no_end (never_ending_is_valid, tt)
 
--- ---- and can be joined ----
+-- ---- the parts can be joined ----
 
 can_be_joined : (e : Example) → CanBeJoined (parts_of e) mode.Refuse
 unfolding repeated_name all_exports over_limit
 can_be_joined e = record { valid = valid e; bounded = λ p m is. grind arith; linked = no_fault e; names = grind arith; sizes = rw (joins e) (grind arith) }
 
--- each mistake breaks the law and the clause
+-- Each mistake breaks the law and the clause.
 breaks : (w : Mistake) → Breaks w
 breaks w =
     let e = (wrong w).parts in (

@@ -1,4 +1,5 @@
--- The segments of the parts and those of the merged module stand in the same order, and each is copied to the same place; a segment that declares references has no partner.
+-- The segments of the parts and those of the merged module are in the same order, and each is
+-- copied to the same place; a segment that declares references has no partner.
 use Rattle.base_lists.proofs.Common.{◌≡◌, ℕ, suc, List, [], ◌∷◌, ◌++◌, map, length, Some, refl, ap, ◌∙◌, arith, append_assoc, drop, slice_get, same_Some, slice_get_within, length-numbers, nat_tests, append-nil, length-map, drop_at, slice_index_is, numbers_at}
 use Rattle.std.proofs.lemmas.List.{drop-drop}
 use Rattle.wasm_tree_spec.specs.Prelude.{Space, Module, Tables, Memories, I32, ConstExpr}
@@ -21,7 +22,7 @@ use Rattle.merge_behaves_proof.proofs.ValueShared.{shares, names_one}
 use Rattle.merge_behaves_proof.proofs.Values.{const_rel}
 use Rattle.world_simulation.specs.Segments as segments
 
--- ---- segments of one kind by part, one after the other, and the same segments of one module ----
+-- ---- segments of one kind, by part, and the same segments of one module ----
 
 abbrev task : {A : Type 0} → ℕ → Inst → ℕ → A → PlacedSegment A
 task p i a x = record { part = p; inst = i; address = a; segment = x }
@@ -31,7 +32,8 @@ module _ {env : Environment} {parts : List Part} {insts js : List Inst} (agree :
   abbrev whole : Inst
   whole = agree.merged
 
-  -- the segments of one part, each with one address that both lists have, and then others
+  -- The segments of one part, each with an address that both lists have, followed by other
+  -- segments.
   module _ (p : ℕ) (i : Inst) (become : A → A) (rest : List (PlacedSegment A)) (behind : List A) (left : List ℕ) (then : InOrder partners first second rest (segments_in 0 whole left behind)) where
     in_part : (xs ys : List ℕ) (es : List A) → drop (length es) ys ≡ left → ((n : ℕ) (e : A) → slice_get es n ≡ Some e → (a : ℕ) × (slice_get xs n ≡ Some a) × (slice_get ys n ≡ Some a) × partners (task p i a e) (task 0 whole a (become e))) →
         InOrder partners first second (segments_in p i xs es ++ rest) (segments_in 0 whole ys (map become es ++ behind))
@@ -40,12 +42,13 @@ module _ {env : Environment} {parts : List Part} {insts js : List Inst} (agree :
     in_part (x ∷ xs) ys [] at each = rw at then
     in_part _ _ (e ∷ es) at each = let s = each 0 e refl in cc
 
-  -- where no segment of a part is left, each segment that is left of the merged module stands there without a partner
+  -- If no segment of a part is left, each segment that is left of the merged module has no partner.
   rest_alone : (ns : List ℕ) (es : List A) → ((n l : ℕ) (e : A) → slice_get es l ≡ Some e → second (task 0 whole n e)) → InOrder partners first second [] (segments_in 0 whole ns es)
   rest_alone (n ∷ ns) (e ∷ es) h = only_second (h n 0 e refl) (rest_alone ns es (λ n l. h n (suc l)))
   rest_alone _ _ h = ends
 
-  -- The segments of the parts and those of the merged module: a part's stand there behind those of the parts before it, with the addresses that they have, and each has its partner.
+  -- The segments of a part follow, in the merged module, those of the parts before it, with the
+  -- addresses that they have in the parts' world, and each has its partner.
   all_in_order : NothingIsDefinedBeforeTheFirst → EachPartAddsItsDefinitions → ((n l : ℕ) (e : A) → slice_get more l ≡ Some e → second (task 0 whole n e)) →
       ((p : ℕ) (m : Module) (i : Inst) → module_at parts p ≡ Some m → PartAgrees env parts p m i whole → SpaceAgrees env parts k (addresses_in k i) (addresses_in k whole) (numbers (defined_before k parts p) (length (segs m)))
       × ((x a : ℕ) (e : A) → slice_get (segs m) x ≡ Some e → (sharing env parts).of k a a → partners (task p i a e) (task 0 whole a (new p m e)))) →
@@ -81,7 +84,7 @@ module _ (laws : Laws) (env : Environment) (parts : List Part) (mode : Mode) (ca
   unfolding map_of
   elems_in_order = rw (laws.elems_listed 0 parts insts, agree.alone, append-nil)
       (all_in_order agree (all_join parts mode).elems _ _ _ laws.none_before laws.before_next
-      -- a segment that declares references has no partner
+      -- A segment that declares references has no partner.
       (λ n l e h. grind (arith, segments.ElemAlone.declarative))
       (λ p m i is k. (
         k.elems,

@@ -1,4 +1,4 @@
--- What is taken from the crates below.
+-- The laws of lower crates on the ends of imports, index spaces and allocated stores.
 use Rattle.world_simulation.specs.Alone.{ImportsDenoteTheEnvironment, SpacesAreImportsAndOwn}
 use Rattle.world_simulation.specs.Owned.{OwnEntitiesCorrespond}
 use Rattle.world_simulation.specs.IndexSpaces.{EachPartHasAnInstance, IndicesNameImportsOrDefinitions, SpacesAreImportsAndDefinitions}

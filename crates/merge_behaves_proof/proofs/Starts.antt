@@ -1,4 +1,5 @@
--- The functions that the parts start, and what the merged module starts in place of these.
+-- The start functions of the parts, and the start function of the merged module that takes their
+-- place.
 use Rattle.base_lists.proofs.Common.{◌≡◌, ◌∙◌, sym, refl, ℕ, suc, ◌<◌, List, [], ◌∷◌, length, Option, Some, None, true, arith, slice_get, map, ltb-true, append_right, place_of, append_at_left, length-append, option_map_is, append_rel, each_same_is}
 use Rattle.wasm_tree_spec.specs.Prelude.{Functions, FuncType, Module, Call, func_of, imported_funcs, type_of_func, same_type, same_func_type}
 use Rattle.wasm_meaning.specs.Prelude.{Inst, Code, Store, Part, has_kind, sites, Environment, all_of, defined_before, start_in, starts_of, insts_from, own_store, stores_from, is_matched, Filled, run_elem, run_data, one_by_one, segments, type_at, FuncAt}
@@ -19,20 +20,21 @@ use Rattle.merge_valid_proof.specs.Started.{StartsTakeNothing}
 use Rattle.merge_behaves_proof.proofs.MatchTypes.{site_fits}
 use Rattle.merge_behaves_proof.proofs.Matching.{func_typed}
 
--- ---- what is started: the same one, or none, or the one function that calls several ----
+-- ---- the started functions: the same one, none, or the function that calls several ----
 
--- an address, and the index by which the merged module's instance names it
+-- An address, and the index by which the merged module's instance names it.
 pub record IsNamed (env : Environment) (parts : List Part) (j : Inst) (a f : ℕ) : Type 0 where
   pub names : slice_get j.funcs f ≡ Some a
   pub shared : a < shared_count env parts Functions
 
--- what the parts start one after the other, what is started of the merged module, and the new indices of the parts' starts
+-- The addresses of the functions that the parts start one after the other, those of what the merged
+-- module starts, and the new indices of the parts' starts.
 pub record StartsAgree (env : Environment) (parts : List Part) (j : Inst) (several joined : List ℕ) : Type 0 where
   pub named : ListRel (IsNamed env parts j) several (starts parts)
   pub shared : ListRel ((sharing env parts).of Functions) several several
-  -- where at most one part has a start
+  -- If at most one part has a start, the merged module starts the same function.
   pub few : length (starts parts) < 2 → joined ≡ several
-  -- where several have one, the function that calls them, which comes last
+  -- If several parts have a start, the merged module starts its last function, which calls these.
   pub calls : (f g : ℕ) (fs : List ℕ) → starts parts ≡ f ∷ g ∷ fs → joined ≡ shared_count env parts Functions ∷ []
 
 -- ---- several starts ----
@@ -42,7 +44,8 @@ module _ {env : Environment} {parts : List Part} {j : Inst} where
   shared_with_self nil = nil
   shared_with_self (cons w r) = cons (shares env parts Functions _ w.shared) (shared_with_self r)
 
-  -- if P holds of each start's index and the address that it names, it holds of the lists of these, place by place
+  -- A property of the index of each start and the address that it names holds of the two lists,
+  -- entry by entry.
   each_start : (P : ℕ → ℕ → Type 0) {several fs : List ℕ} → ListRel (IsNamed env parts j) several fs → ((n f a : ℕ) → slice_get fs n ≡ Some f → slice_get j.funcs f ≡ Some a → P f a) → ListRel P fs several
   each_start P nil h = nil
   each_start P (cons w r) h = cons (h 0 _ _ refl w.names) (each_start P r (λ n. h (suc n)))
@@ -65,17 +68,17 @@ module _ (laws : SpaceLaws) (env : Environment) (parts : List Part) (linked : li
     named = all_named;
     shared = shared_with_self all_named;
     few = λ l. grind (arith, all_named);
-    -- the merged module has a function more, and the instance names it by its last index
+    -- The merged module has an additional function, which its instance names by the last index.
     calls = λ f g fs e.
         let j : (j : Inst) × (js ≡ j ∷ []) × IsInst env (one J) 0 J j = search (arith, there) in
         grind (arith, e, j.1, own_at laws env parts linked mode j.0 j.2 Functions refl (defined_before Functions parts (length parts)));
   })
 
--- ---- the functions that are started, as they stand in the store: those of the parts, which take and give nothing, and the one that calls several ----
+-- ---- the started functions in the store: those of the parts, and the one that calls several ----
 
 -- ---- segments leave the functions as they are ----
 
--- if each run leaves the functions as they are, so do several, one after the other
+-- A sequence of runs leaves the functions as they are, if each of them does.
 in_turn_keeps : {A : Type 0} (run : Store → A → Filled) → ((s : Store) (x : A) → (run s x).store.funcs ≡ s.funcs) → (s : Store) (xs : List A) → (one_by_one run s xs).store.funcs ≡ s.funcs
 in_turn_keeps run h s [] = refl
 in_turn_keeps run h s (x ∷ xs) = grind (arith, h, in_turn_keeps run h (run s x).store xs)
@@ -85,7 +88,7 @@ segments_keep_funcs env parts insts s = grind (arith, in_turn_keeps (run_elem en
 
 -- ---- the merged module's functions ----
 
--- a type that is the same as that of the starts is that one
+-- A function type that passes the test of sameness with the type of a start is that type.
 nullary_is : (t : FuncType) → same_func_type nullary t ≡ true → nullary ≡ t
 nullary_is t h = grind (arith, each_same_is same_type (λ a b e. grind arith))
 
@@ -100,7 +103,7 @@ module _ (laws : SpaceLaws) (nothing : StartsTakeNothing) (env : Environment) (p
   abbrev w : Instantiated
   w = record { parts = M; insts = j ∷ [] }
 
-  -- where several parts have a start, the function that calls these comes last
+  -- If several parts have a start, the function that calls these comes last.
   pub caller_code : (f g : ℕ) (fs : List ℕ) → starts parts ≡ f ∷ g ∷ fs → slice_get z.funcs (shared_count env parts Functions) ≡ Some (Code nullary j [] (map Call (starts parts)))
   caller_code f g fs e =
       let calls = start_calls parts (starts parts) in
@@ -124,18 +127,18 @@ module _ (laws : SpaceLaws) (nothing : StartsTakeNothing) (env : Environment) (p
       }) in
       r.1 ∙ sym r.2 ∙ rw (inst.types, joined_types parts mode, (nothing parts (names_of parts mode) can.valid can.linked 0 f (rw e)).1)
 
-  -- the parts' starts take and give nothing
+  -- The start functions of the parts take and give nothing, if all imports match.
   pub starts_typed : all_of (is_matched env M z) (sites M) ≡ true → (several : List ℕ) → ListRel (IsNamed env parts j) several (starts parts) →
       (P : ℕ → ℕ → Type 0) → ((f a : ℕ) → slice_get j.funcs f ≡ Some a → type_at z a ≡ Some nullary → P f a) → ListRel P (starts parts) several
   starts_typed matched several named P h = each_start P named (λ n f a is e.
       let q = joined_keeps parts mode in
       let typed : type_of_func whole f ≡ Some nullary = rw (q.types, q.func_space) (nothing parts (names_of parts mode) can.valid can.linked n f is).0 in
-      -- a function that an index names has the type of that index
+      -- A function in the store has the type of the index that names it.
       h f a e (elim (laws.names env M Functions 0 whole _ (laws.index_spaces env M Functions 0 whole _ inst.funcs) f a e) [
         | imports k at address ↦
             let r = place_of (has_kind Functions) (λ i. func_of i.desc) whole.imports (grind arith) 0 f k at in
             let fits = site_fits env M z (site k) r.1 (FuncOf nullary) (grind (arith, r.2, r.3)) (grind (arith, r.2, r.3, append_at_left (imported_funcs whole.imports))) laws.sites matched in
-            -- what fits is of the type that is asked for
+            -- A function that fits has the type that is asked for.
             let thing : fits.thing ≡ FuncAt a = grind (arith, rw fits.is at address) in
             let u = option_map_is FuncOf (type_at z a) fits.type (rw thing at fits.typed) in
             rw (nullary_is u.0 (rw (← u.2) at fits.fits.same)) u.1

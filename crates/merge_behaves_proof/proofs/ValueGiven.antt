@@ -1,4 +1,5 @@
--- What the laws of lower crates say that the values and stores of parts and of their merged module rest on.
+-- The laws of lower crates on which the lemmas about values and stores of parts and their merged
+-- module rest.
 use Rattle.base_lists.proofs.Common.{◌≡◌, ℕ, ◌<◌, List, length, Some, None, true, IsTrue, slice_get, slice_get_within, arith}
 use Rattle.wasm_tree_spec.specs.Prelude.{Ref, Func, GlobalDef, ElemSeg, DataSeg, ValType, ConstExpr, Module}
 use Rattle.wasm_valid.specs.declared.kinds.ItemKind.TheVariants as kind
@@ -16,14 +17,14 @@ use Rattle.merge_valid_proof.specs.Joinable.{CanBeJoined, EachPart}
 use Rattle.merge_behaves_proof.specs.Instances.{PartAgrees}
 
 pub record Laws : Type 0 where
-  -- of wasm_valid
+  -- The law of wasm_valid.
   pub items : ValidWhereItemsHold
-  -- of merge_valid_proof
+  -- The laws on the validity of merged modules.
   pub valid : (parts : List Part) (mode : Mode) → CanBeJoined parts mode → IsValid (joined_module parts mode)
   pub entries : (parts : List Part) (p : ℕ) (m : Module) → IsValid m → IsTrue (fits_tree (map_of parts p m) m)
   pub reads : (parts : List Part) (p : ℕ) (m : Module) (e : ConstExpr) (ty : ValType) (r : Read) → EachPart IsValid parts → link_fault parts true ≡ None → module_at parts p ≡ Some m → const_type m e ≡ Some ty → read_of parts p e ≡ Some r → HasEntry parts r
   pub there : (parts : List Part) (p : ℕ) (m : Module) (e : ConstExpr) (ty : ValType) → EachPart IsValid parts → link_fault parts true ≡ None → module_at parts p ≡ Some m → const_type m e ≡ Some ty → (r : Read) × (read_of parts p e ≡ Some r)
-  -- of world_simulation
+  -- The laws of world_simulation.
   pub alone_reads : ReadsStay
   pub alone_spaces : SpacesAreImportsAndOwn
   pub own : OwnEntitiesCorrespond
@@ -35,13 +36,13 @@ pub record Laws : Type 0 where
   pub declared : DeclaringSegmentsAreAllocated
   pub elems_listed : ElemsAreListedByPart
   pub datas_listed : DatasAreListedByPart
-  -- of wasm_meaning
+  -- The laws of wasm_meaning.
   pub none_before : NothingIsDefinedBeforeTheFirst
   pub before_next : EachPartAddsItsDefinitions
-  -- of index_remap
+  -- The law of index_remap.
   pub code : RenumberedCodeIsRelated
 
--- the instance of each part agrees with that of the merged module
+-- The instance of each part agrees with that of the merged module.
 abbrev pub EachAgrees : Environment → List Part → List Inst → Inst → Type 0
 EachAgrees env parts insts j = (p : ℕ) (m : Module) → module_at parts p ≡ Some m → (i : Inst) × (slice_get insts p ≡ Some i) × PartAgrees env parts p m i j
 

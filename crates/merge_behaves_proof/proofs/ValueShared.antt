@@ -1,4 +1,5 @@
--- The addresses that both worlds have: each is related to itself, and those of the environment's own entities are among them.
+-- The addresses that both worlds have: each is related to itself, and those of the environment's
+-- own entities are among them.
 use Rattle.base_lists.proofs.Common.{◌≡◌, ℕ, ◌<◌, List, true, arith, slice_get, slice_index, ltb-true, nat_tests}
 use Rattle.wasm_tree_spec.specs.Prelude.{Space, Functions, Tables, Memories, Globals}
 use Rattle.wasm_meaning.specs.Prelude.{Part, Environment}
@@ -17,7 +18,7 @@ module _ (env : Environment) (parts : List Part) where
   pub is_same : (k : Space) (a b : ℕ) → R.of k a b → (a ≡ b) × (a < shared_count env parts k)
   is_same k a b h = grind (arith, nat_tests)
 
-  -- an index and its entry name one address
+  -- An index of a part and its entry in the map name one address.
   pub names_one : (k : Space) {xs ys entries : List ℕ} → SpaceAgrees env parts k xs ys entries → (x : ℕ) → has entries x ≡ true → OptRel (R.of k) (slice_get xs x) (slice_get ys (slice_index entries x))
   names_one k s x h = let o = s.each x (ltb-true _ _ h) in rw (o.first, o.second) (some (shares k o.address o.shared))
 

@@ -1,4 +1,5 @@
--- The values of constant expressions of a part, and of what these become in the merged module.
+-- The values of constant expressions of a part, and of the constant expressions that these become
+-- in the merged module.
 use Rattle.base_lists.proofs.Common.{◌≡◌, ℕ, zero, suc, ◌+◌, List, [], ◌∷◌, length, Some, true, ap, ◌∙◌, arith, option_and_then, slice_get, slice_get_past, length-append, ltb-true, length-map, place_back, get_rel, then_rel, places_many}
 use Rattle.wasm_tree_spec.specs.Prelude.{Space, Functions, Globals, Import, Module, funcs_of, imported_funcs, ValType, ConstExpr}
 use Rattle.wasm_meaning.specs.Prelude.{Inst, places, has_kind, imports_of, space_index, Part, module_at, Environment, own_globals, insts_from, value_of, const_value, inst_of}
@@ -18,7 +19,7 @@ use Rattle.wasm_tree.specs.declared.module.ConstExpr.TheVariants as const
 
 -- ---- imports of one kind ----
 
--- the index of an import among those of its kind, by its place
+-- The index of an import in the index space of its kind, found from its place among the imports.
 index_at : (k : Space) (is : List Import) (from p y : ℕ) → slice_get (places (has_kind k) is from) y ≡ Some (from + p) → space_index is p k ≡ y
 index_at k [] from p y h = cc
 index_at k (i ∷ is) from zero y h = grind (arith, place_back (has_kind k) is (suc from))
@@ -35,11 +36,12 @@ module _ (laws : Laws) (env : Environment) (u : Module) (j : Inst) (are : insts_
       let many : length (imports_of Functions u) ≡ length (imported_funcs u.imports) = places_many _ _ u.imports (grind arith) 0 in
       simp (length-append, length-map, ← many) (laws.index_spaces env (one u) Functions 0 u _ is_inst.funcs).size
 
-  -- a global has the value of the environment's at its address, where it is an import, and otherwise none that is read; its address is then none of the environment's
+  -- An imported global has the value of the environment's global at its address. A defined global
+  -- has no value that can be read, and its address is none of the environment's.
   pub global_value : (y a : ℕ) → slice_get j.globals y ≡ Some a → value_of env (one u) (j ∷ []) 0 (const.Global y) ≡ option_and_then (λ g. Some g.value) (slice_get (own_globals env) a)
   global_value y a h = grind (arith, laws.alone_reads u (const.Global y), laws.names env (one u) Globals 0 u _ (laws.index_spaces env (one u) Globals 0 u _ is_inst.globals) y a h, place_back (has_kind Globals) u.imports 0, index_at Globals u.imports 0, slice_get_past)
 
--- ---- a constant expression of a part, and what it becomes ----
+-- ---- a constant expression of a part, and the one that it becomes ----
 
 module _ (laws : Laws) (env : Environment) (parts : List Part) (mode : Mode) where
   abbrev M : List Part
@@ -49,7 +51,8 @@ module _ (laws : Laws) (env : Environment) (parts : List Part) (mode : Mode) whe
   R = sharing env parts
 
   module _ (can : CanBeJoined parts mode) (insts : List Inst) (j : Inst) (each : EachAgrees env parts insts j) (are : insts_from env M 0 M ≡ Some (j ∷ [])) where
-    -- the value of an expression that is read, and of what it becomes
+    -- The values of an expression at which a read ends, and of the expression that it becomes, are
+    -- related.
     read_rel : (q : ℕ) (m : Module) (i : Inst) → PartAgrees env parts q m i j → (x : ConstExpr) → fits_const (map_of parts q m) x ≡ true → OptRel (ValRel R) (const_value (own_globals env) i x) (value_of env M (j ∷ []) 0 (new_const (map_of parts q m) x))
     read_rel q m i k (const.Func f) h = then_rel (names_one env parts Functions k.funcs f h) (λ _ _ r. some (reference (func (some r))))
     read_rel q m i k (const.Global x) h =
@@ -66,6 +69,7 @@ module _ (laws : Laws) (env : Environment) (parts : List Part) (mode : Mode) whe
         let i = each r.0.part h.of h.is_part in
         rw (r.1, i.1, h.is_part) (read_rel r.0.part h.of i.0 i.2 r.0.expr h.fits)
 
-  -- where instances agree, the only one of the merged module is the one that they agree with
+  -- If the instances agree, the only instance of the merged module is the one with which those of
+  -- the parts agree.
   pub are_one : CanBeJoined parts mode → (insts js : List Inst) (k : InstancesAgree env parts insts js) → insts_from env M 0 M ≡ Some js → insts_from env M 0 M ≡ Some (k.merged ∷ [])
   are_one can insts js k are = are ∙ ap Some k.alone

@@ -1,4 +1,5 @@
--- The world of linked parts and that of their merged module: both are instantiated or neither, and then they have equal traces.
+-- The world of linked parts and that of their merged module: both are instantiated or neither, and
+-- then they have equal traces.
 use Rattle.base_lists.proofs.Common.{subst, ◌≡◌, ◌∙◌, ap, refl, ℕ, ◌+◌, List, [], ◌∷◌, Option, Some, arith, option_and_then, is_some, opt_both, all_rel}
 use Rattle.wasm_tree_spec.specs.Prelude.{Functions, Module}
 use Rattle.wasm_meaning.specs.Prelude.{Part, Environment, Begun, alone, insts_from, own_store, stores_from, segments, starts_of, begun, instantiate, links, World, Event, Move, tick, events_of, IsPrefix, fresh_run}
@@ -25,11 +26,12 @@ use Rattle.world_simulation.specs.Simulation.{WhatIsInstantiated, AllocatedStore
 use Rattle.merge_behaves_proof.proofs.Matching.{all_matched}
 use Rattle.merge_behaves_proof.proofs.Starts.{StartsAgree, starts_agree, segments_keep_funcs, caller_code, starts_typed}
 
--- what has begun, with other starts
+-- An instantiated world with other start functions.
 abbrev started : Begun → List ℕ → Begun
 started c starts = record c { starts = starts }
 
--- if two values are both there or neither is, and so is what `f` and `g` make of them, then the results are both there or neither is
+-- If two optional values both exist or neither, and for those that exist the results of `f` and `g`
+-- do so too, then the composed results both exist or neither.
 there_after : {A B C D : Type 0} {P : A → B → Type 0} {o : Option A} {p : Option B} (f : A → Option C) (g : B → Option D) →
     OptRel P o p → ((a : A) (b : B) → o ≡ Some a → p ≡ Some b → P a b → is_some (f a) ≡ is_some (g b)) → is_some (option_and_then f o) ≡ is_some (option_and_then g p)
 there_after f g none h = refl
@@ -58,7 +60,8 @@ module _ (spaces : SpaceLaws) (laws : Laws) (nothing : StartsTakeNothing) (simil
   fit : AllFit parts
   fit p m is = laws.entries parts p m (can.valid p m is)
 
-  -- either all instances of the parts and that of the merged module are there, and agree, or both are missing
+  -- Either all instances of the parts and that of the merged module exist and agree, or both are
+  -- missing.
   insts_agree : OptRel (InstancesAgree env parts) (insts_from env parts 0 parts) (insts_from env M 0 M)
   insts_agree = instances_agree spaces env parts mode can
 
@@ -75,7 +78,7 @@ module _ (spaces : SpaceLaws) (laws : Laws) (nothing : StartsTakeNothing) (simil
         view = view_agrees env parts fit insts js k mode;
       }
 
-  -- the environment links both or neither
+  -- The environment links both worlds or neither.
   linked : links env V ≡ links env W
   linked = there_after _ _ insts_agree (λ insts js f g k.
       let worlds = similar insts js f g in
@@ -83,13 +86,13 @@ module _ (spaces : SpaceLaws) (laws : Laws) (nothing : StartsTakeNothing) (simil
       there_after _ _ (all_rel worlds.view) (λ _ _ _ _ _.
       rw (all_matched spaces env parts can.linked mode (allocated_law _ _ [] env V W insts js s z worlds.own worlds.definitions h i) insts js k h) (grind arith))))
 
-  -- ---- what is seen ----
+  -- ---- traces ----
 
   module _ (moves : List Move) where
     abbrev shown : Option Begun → ℕ → List Event
     shown b = events_of tick (fresh_run env b moves)
 
-    -- what the one shows in n steps the other shows in n + 4
+    -- The trace of n steps of each world is a prefix of that of n + 4 steps of the other.
     abbrev ShowInFourMore : Option Begun → Option Begun → ℕ → Type 0
     ShowInFourMore b c n = IsPrefix (shown b n) (shown c (n + 4)) × IsPrefix (shown c n) (shown b (n + 4))
 
@@ -108,7 +111,7 @@ module _ (spaces : SpaceLaws) (laws : Laws) (nothing : StartsTakeNothing) (simil
 
       calls_each : (f g : ℕ) (fs : List ℕ) → starts parts ≡ f ∷ g ∷ fs → CallsEach merged_begun.store (shared_count env parts Functions) several
       calls_each f g fs e =
-          -- the store that segments were copied into has the functions that were allocated
+          -- The store after the segments are copied has the functions that were allocated.
           let same_funcs = segments_keep_funcs env M y.insts y.allocated in
           let inst = is_inst laws env J k.merged (y.are_insts ∙ ap Some k.alone) in
           let there = subst (λ js. stores_from env M js (own_store env) 0 M js ≡ Some y.allocated) k.alone y.is_allocated in

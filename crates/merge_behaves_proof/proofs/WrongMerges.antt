@@ -1,4 +1,5 @@
--- Merges that are wrong, of two small parts each, with names: by computation, the parts and such a module do not have the same traces.
+-- Wrong merges of two small parts each, with names: the parts and such a module do not have the
+-- same traces, by computation.
 use Rattle.base_lists.proofs.Common.{◌≡◌, refl, ap, ℕ, zero, suc, List, [], ◌∷◌, true, Some, None, pos, IsTrue, arith}
 use Rattle.wasm_tree.specs.declared.types.RefType.TheVariants as reft
 use Rattle.wasm_tree.specs.declared.types.ValType.TheVariants as valt
@@ -20,9 +21,9 @@ use Rattle.merge_spec.specs.Prelude.{named_modules, linked_world}
 use Rattle.merge_spec.specs.View.{all_entities, merge_view}
 use Rattle.merge_behaves_proof.specs.Laws.{ObservationallyEquivalent}
 
--- ---- what is common ----
+-- ---- shared definitions ----
 
--- the names own, a, b, f, g and m
+-- The names own, a, b, f, g and m.
 abbrev own : Text
 own = 111 ∷ 119 ∷ 110 ∷ []
 
@@ -61,11 +62,11 @@ asks field = Asked (own, field) nullary []
 
 -- ---- two starts ----
 
--- a module whose start calls one function of the environment's own
+-- A module whose start calls one function of the environment's own.
 abbrev pub starting : Text → Module
 starting field = record empty { types = nullary ∷ []; imports = own_func field 0 ∷ []; funcs = code 0 (i.Call 0 ∷ []) ∷ []; start = Some 1 }
 
--- two of them merged, with this body of the function that is the start
+-- The merged module of two such modules, with this body of its start function.
 abbrev starting_by : List Instr → Module
 starting_by body = record empty {
   types = nullary ∷ [];
@@ -74,7 +75,7 @@ starting_by body = record empty {
   start = Some 4;
 }
 
--- both starts are called
+-- The merged module whose start calls both starts in order.
 abbrev in_order : Module
 in_order = starting_by (i.Call 2 ∷ i.Call 3 ∷ [])
 
@@ -83,7 +84,7 @@ in_order = starting_by (i.Call 2 ∷ i.Call 3 ∷ [])
 abbrev calling_body : ℕ → List Instr
 calling_body ty = i.I32Const (pos 7) ∷ i.I32Const (pos 0) ∷ i.CallIndirect ty 0 ∷ i.Drop ∷ []
 
--- a module whose start calls a function of the environment's own through its table
+-- A module whose start calls a function of the environment's own through its table.
 abbrev pub calling : Module
 calling = record empty {
   types = nullary ∷ [];
@@ -94,7 +95,7 @@ calling = record empty {
   elems = record { mode = elem.Active 0 (const.I32 (pos 0)); ty = reft.Func; items = const.Func 0 ∷ [] } ∷ [];
 }
 
--- that module merged after a part with another type, with this type index in its indirect call
+-- That module merged after a part with another type, with this type index in its indirect call.
 abbrev two_types_with : ℕ → Module
 two_types_with ty = record calling { types = from_i32 ∷ nullary ∷ []; imports = own_func f 1 ∷ []; funcs = code 1 (calling_body ty) ∷ [] }
 
@@ -103,21 +104,21 @@ two_types_with ty = record calling { types = from_i32 ∷ nullary ∷ []; import
 abbrev pages_from : ℕ → Limits
 pages_from n = record { min = n; max = None }
 
--- a module that imports a memory with this minimum
+-- A module that imports a memory with this minimum.
 abbrev pub one_memory_from : ℕ → Module
 one_memory_from n = record empty { imports = record { «module» = own; field = m; desc = im.Memory (pages_from n) } ∷ [] }
 
--- a memory without a page
+-- An environment that has a memory without a page.
 abbrev no_page : Environment
 no_page = record { pair = (own, m); funcs = []; table = None; memory = Some (record { limits = pages_from 0; pages = 0; bytes = [] }); global = None } ∷ []
 
 -- ---- a start that does not end ----
 
--- a module whose start begins again and again
+-- A module whose start loops for ever.
 abbrev pub never_ending : Module
 never_ending = record empty { types = nullary ∷ []; funcs = code 0 (i.Loop bt.Empty (i.Br 0 ∷ []) ∷ []) ∷ []; start = Some 0 }
 
--- ---- the parts, and what is seen of them ----
+-- ---- the parts and their traces ----
 
 pub data Example : Type 0 where
   two_starts : Example
@@ -125,7 +126,8 @@ pub data Example : Type 0 where
   one_memory : Example
   no_end : Example
 
--- Two parts, and their merged module; an environment, how it moves, and what is seen of the parts there in ten steps.
+-- Two parts and their merged module; an environment, its moves, and the trace of ten steps of the
+-- parts there.
 pub record Case : Type 0 where
   pub first : Module
   pub second : Module
@@ -147,11 +149,11 @@ case two_types = record { first = record empty { types = from_i32 ∷ [] }; seco
 case one_memory = record { first = one_memory_from 0; second = one_memory_from 1; whole = one_memory_from 1; env = no_page; moves = []; shown = LinkFault ∷ [] }
 case no_end = record { first = never_ending; second = empty; whole = never_ending; env = []; moves = []; shown = [] }
 
--- the parts a and b, as `join` is given them
+-- The parts a and b, as `join` is given them.
 abbrev pub given_as : Example → List given.Part
 given_as e = record { name = a; «module» = (case e).first } ∷ record { name = b; «module» = (case e).second } ∷ []
 
--- the same parts, as linking by name speaks of them
+-- The same parts, in the form that linking by name uses.
 abbrev pub parts_of : Example → List Part
 parts_of e = named_modules (given_as e)
 
@@ -164,28 +166,28 @@ unfolding joined_module merged staying staying_of place_of_end new_index merged_
 joins one_memory = refl
 joins _ = simp (fold_out-Instr, the_lemmas)
 
--- Of the parts whose start does not end nothing is seen, by whatever moves and in any number of steps.
+-- The trace of parts whose start does not end is empty, for all moves and any number of steps.
 the_parts_show_nothing : (moves : List Move) (n : ℕ) → events (linked_world (parts_of no_end) mode.Refuse) [] moves n ≡ []
 unfolding all_entities merge_view
 the_parts_show_nothing moves zero = refl
 the_parts_show_nothing moves (suc zero) = refl
--- the loop is about to begin
+-- The loop is about to begin.
 the_parts_show_nothing moves (suc (suc zero)) = refl
 the_parts_show_nothing moves (suc (suc (suc zero))) = simp i.outs-Loop
--- it begins again
+-- The loop begins again.
 the_parts_show_nothing moves (suc (suc (suc (suc n)))) = simp (i.outs-Loop, i.outs-Br) (the_parts_show_nothing moves (suc (suc n)))
 
--- the environment is well formed, and what is seen of the parts there
+-- The environment is well formed, and the trace of the parts in it is the one of the example.
 the_parts_show : (e : Example) → IsTrue (is_environment (case e).env) × (events (linked_world (parts_of e) mode.Refuse) (case e).env (case e).moves 10 ≡ (case e).shown)
 unfolding out-Instr denote.Hole.Carrier.out wrapped all_entities merge_view
 the_parts_show no_end = (refl, the_parts_show_nothing [] 10)
 the_parts_show _ = (refl, refl)
 
--- what is seen of a module alone in fourteen steps, four more than the parts have
+-- The trace of a module alone in fourteen steps, four more than the parts have.
 abbrev seen_alone : Example → Module → List Event
 seen_alone e x = events (alone x) (case e).env (case e).moves 14
 
--- of the merged module, where the start ends, the same is seen as of the parts
+-- The merged module has the trace of the parts, if the start ends.
 the_merge_shows_the_same : (e : Example) → (e ≡ no_end → ⊥) → seen_alone e (joined_module (parts_of e) mode.Refuse) ≡ (case e).shown
 unfolding out-Instr denote.Hole.Carrier.out wrapped
 the_merge_shows_the_same no_end ends = absurd (ends refl)
@@ -193,22 +195,23 @@ the_merge_shows_the_same e ends = ap (seen_alone e) (joins e)
 
 -- ---- the wrong merges ----
 
--- mistakes that a merge can make
+-- The mistakes of the wrong merges.
 pub data Mistake : Type 0 where
-  -- the second start is not called
+  -- The second start is not called.
   second_dropped : Mistake
-  -- the first start is the start
+  -- The first start is the start of the merged module.
   first_alone : Mistake
-  -- the second start is called first
+  -- The second start is called first.
   second_first : Mistake
-  -- the types are shared, and the type index of an indirect call is as it was: the call traps
+  -- The types are shared, but the type index of an indirect call is unchanged, so the call traps.
   type_index_kept : Mistake
-  -- a memory that two parts import keeps the first limits
+  -- A memory that two parts import keeps the first limits.
   first_limits : Mistake
-  -- a start which does not end is left out
+  -- A start that does not end is left out.
   start_left_out : Mistake
 
--- which parts are merged, the module that a mistake gives for them, and what is seen of that module alone in fourteen steps
+-- The parts that are merged, the module that a mistake gives for them, and the trace of that module
+-- alone in fourteen steps.
 pub record Wrong : Type 0 where
   pub parts : Example
   pub tree : Module
@@ -222,30 +225,32 @@ wrong type_index_kept = record { parts = two_types; tree = two_types_with 0; sho
 wrong first_limits = record { parts = one_memory; tree = one_memory_from 0; shown = Linked ∷ [] }
 wrong start_left_out = record { parts = no_end; tree = record never_ending { start = None }; shown = Linked ∷ [] }
 
--- what is seen of the module that a mistake gives, by computation
+-- The trace of the module that a mistake gives is computed.
 it_shows : (w : Mistake) → seen_alone (wrong w).parts (wrong w).tree ≡ (wrong w).shown
 unfolding out-Instr denote.Hole.Carrier.out wrapped
 it_shows second_dropped = refl
 it_shows _ = refl
 
--- the module that a mistake gives has the traces of the parts
+-- The module that a mistake gives is observationally equivalent to the parts.
 abbrev pub IsEquivalent : Mistake → Type 0
 IsEquivalent w = ObservationallyEquivalent (parts_of (wrong w).parts) mode.Refuse (wrong w).tree
 
--- then what is seen of the parts is the beginning of what is seen of the module
+-- If the module were equivalent to the parts, the trace of the parts would be a prefix of that of
+-- the module.
 begins_it : (w : Mistake) → IsEquivalent w → IsPrefix (case (wrong w).parts).shown (wrong w).shown
 begins_it w same =
     let e = (wrong w).parts in
     let parts = the_parts_show e in
     rw (← parts.1, ← it_shows w) (same (case e).env parts.0 tt (case e).moves 10).0
 
--- Each mistake is refused: what is seen of the parts is not the beginning of what is seen of the module. Only where a start that does not end is left out the other half of the
--- equivalence is refused: the module shows what the parts do not.
+-- Each mistake is refused: the trace of the parts is not a prefix of that of the module. Only if a
+-- start that does not end is left out, the other half of the equivalence fails: the module has
+-- events that the parts do not have.
 pub mistakes_are_refused : (w : Mistake) → IsEquivalent w → ⊥
 mistakes_are_refused start_left_out same = grind (arith, the_parts_show_nothing [] 6, (same [] refl tt [] 2).1)
 mistakes_are_refused w same = grind (arith, (begins_it w same).1)
 
--- each of them by its name
+-- The refusal of each mistake, under a name of its own.
 
 dropped_starts_are_refused : IsEquivalent second_dropped → ⊥
 dropped_starts_are_refused = mistakes_are_refused second_dropped

@@ -1,4 +1,5 @@
--- The operands of a body that is well typed are small, and its memories memory 0: what it names is there.
+-- The operands of a well-typed body are below 2^32, and its memories are memory 0, because the
+-- entities that it names exist.
 use Rattle.base_lists.proofs.Common.{◌≡◌, ℕ, ◌<◌, ◌≤◌, ◌^◌, Bool, true, false, nat_eq, nat_lt, List, [], ◌∷◌, length, Option, Some, None, refl, sym, ap, ◌∙◌, arith, option_and_then, option_map, slice_get, nat_tests, slice_get_within, left_true, right_true, only_true}
 use Rattle.base_lists.specs.Every.{Every}
 use Rattle.wasm_tree_spec.specs.Prelude.{Operand, RefType, FuncType, BlockType, Instr, Row_of-Instr, end_of-Instr, more_of-Instr, Block', Loop', If', Call, CallIndirect, GlobalGet, GlobalSet, TableGet, TableSet, Load, Store, MemorySize, MemoryGrow, RefFunc, MemoryInit, DataDrop, MemoryCopy}
@@ -9,7 +10,7 @@ use Rattle.wasm_tree.specs.declared.instr.Instr.TheOpen.{Instr-F}
 use Rattle.wasm_valid_bodies.specs.Typing.{Stack, Effect, Signature, Context, signature_of, signature_in, gives_of, both, under, only, effect_of, Fits, Leads, LeadsAll}
 use Rattle.wasm_write_proof.specs.Ranges.{small, spelled_operand}
 
--- ---- what is there has a small place
+-- ---- indices of entries that exist are small
 
 small_below : (n most : ℕ) → n < most → most < 2 ^ 32 → small n ≡ true
 small_below n most h k = grind (arith, nat_tests)
@@ -26,7 +27,7 @@ then_there : {A B : Type 0} (f : A → Option B) (o : Option A) (e : B) → opti
 then_there f None e h n = cc
 then_there f (Some x) e h n = cc
 
--- what a context has of each kind is below 2^32, and it has at most one memory
+-- A context with fewer than 2^32 entries of each kind and at most one memory.
 pub record IsSmall (c : Context) : Type 0 where
   pub types : length c.types < 2 ^ 32
   pub funcs : length c.funcs < 2 ^ 32
@@ -49,7 +50,7 @@ one_below n most few h = grind (arith, nat_tests)
 abbrev Small : List Operand → Type 0
 Small = Every (λ o. spelled_operand o ≡ true)
 
--- each operand of the layer itself is small
+-- The operands of an instruction itself, without those of the instructions inside it, are small.
 abbrev SmallLayer : Instr-F Instr → Type 0
 SmallLayer layer = Small (operands layer)
 

@@ -1,4 +1,4 @@
--- Calls have no numbers that are no operands.
+-- The numbers of a body of calls, apart from operands, are in range: there are none.
 use Rattle.base_lists.proofs.Common.{◌≡◌, ℕ, true, List, [], ◌∷◌, map, refl, rules, and_from}
 use Rattle.wasm_tree_spec.specs.Prelude.{the_lemmas, Call}
 use Rattle.wasm_write_proof.specs.Ranges.{numbers_in, all_numbers_in}

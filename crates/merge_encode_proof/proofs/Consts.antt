@@ -1,4 +1,5 @@
--- The constant expressions of a merged module have numbers that stand in some part.
+-- The numbers in the constant expressions of a merged module come from some part, so they are in
+-- range.
 use Rattle.base_lists.proofs.Common.{◌≡◌, ℕ, zero, suc, ◌-◌, List, length, Option, Some, None, refl, subst, option_and_then, slice_get, unwrap_or, and_then_is, every_at}
 use Rattle.base_lists.proofs.Every.{every_map}
 use Rattle.wasm_tree_spec.specs.Prelude.{Globals, ConstExpr, GlobalDef, ElemMode, ElemSeg, DataMode, DataSeg, Module, index_of_export}
@@ -30,7 +31,7 @@ new_number r (const.Null t) h = tt
 new_number r (const.Func f) h = tt
 new_number r (const.Global g) h = tt
 
--- what a step gives has a number in range
+-- The expression that a step of a read gives has a number in range.
 abbrev StepIn : Option (PathStep Read Read) → Type 0
 StepIn None = Unit {0}
 StepIn (Some (EndsWith r)) = ConstNumberInRange r.expr
@@ -67,7 +68,7 @@ expr_in parts h p (const.Null t) n = tt
 expr_in parts h p (const.Func f) n = tt
 expr_in parts h p (const.Global x) n = end_in parts h (option_and_then (end_of parts) (global_import parts p x))
 
--- what a walk ends with
+-- The expression at which a read ends has a number in range.
 abbrev EndIn : Option Read → Type 0
 EndIn None = Unit {0}
 EndIn (Some r) = ConstNumberInRange r.expr

@@ -1,4 +1,4 @@
--- The items of a valid module, whose other numbers are in range, are in range.
+-- The items of a valid module are in range if its numbers that are no indices are in range.
 use Rattle.base_lists.proofs.Common.{◌≡◌, ℕ, ◌<◌, ◌^◌, Bool, true, false, nat_lt, List, length, Option, Some, None, refl, sym, ap, ◌∙◌, subst, arith, slice_get, option_and_then, IsUtf8, nat_tests, slice_get_within, same_Some, length-map, and_from}
 use Rattle.base_lists.proofs.Every.{every_placed}
 use Rattle.base_kept.proofs.Marks.{marks_length}
@@ -140,7 +140,7 @@ module _
       named = let same : length (named_of m) ≡ length (funcs_of m) = marks_length (refs_of m) 0 (length (funcs_of m)) in omega (arith, few.funcs);
     }
 
-    -- the type that a function names, and what its body names
+    -- The type index of a function and the operands of its body are in range.
     func_names : (i : ℕ) (x : Func) → slice_get m.funcs i ≡ Some x → IsU32 x.ty × (all_operands_pass spelled_operand x.body ≡ true)
     func_names i x e = from_held (holds kind.Body i (slice_get_within m.funcs i x e))
       where

@@ -1,4 +1,4 @@
--- The limits of what stays imported are in range.
+-- The limits of the imports that stay are in range.
 use Rattle.base_lists.proofs.Common.{◌≡◌, ℕ, ◌<◌, ◌^◌, Bool, true, false, cond, List, [], ◌∷◌, Option, Some, None, refl, subst, arith, max, min, option_and_then, slice_get, and_then_is, every_at}
 use Rattle.wasm_tree_spec.specs.Prelude.{Limits, ImportDesc, Import, Module}
 use Rattle.wasm_tree.specs.declared.module.ImportDesc.TheVariants as im

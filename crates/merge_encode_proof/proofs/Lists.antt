@@ -1,4 +1,5 @@
--- What is so of each part is so of what is looked up in the parts.
+-- A property of each part's module holds of a part that is looked up, and of lists that are joined
+-- by part.
 use Rattle.base_lists.proofs.Common.{◌≡◌, ℕ, suc, List, [], ◌∷◌, Option, Some, subst, slice_get, flat_map, and_then_is, every_at}
 use Rattle.base_lists.proofs.Every.{every_append}
 use Rattle.wasm_tree_spec.specs.Prelude.{Module}

@@ -1,4 +1,5 @@
--- The merged module keeps the numbers of its parts.
+-- The numbers of the merged module that are no indices, and its names, come from its parts, so they
+-- are in range.
 use Rattle.base_lists.proofs.Common.{◌≡◌, ℕ, List, [], ◌∷◌, map, Option, Some, subst, option_and_then, IsUtf8, and_then_is}
 use Rattle.base_lists.proofs.Every.{every_map, every_some, every_append}
 use Rattle.wasm_tree_spec.specs.Prelude.{TableType, ImportDesc, Import, Export, Func, GlobalDef, DataSeg, Module}

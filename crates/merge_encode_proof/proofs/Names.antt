@@ -1,4 +1,4 @@
--- The names of the exports of a merge are UTF-8.
+-- The names of the exports of a merged module are in UTF-8.
 use Rattle.base_lists.proofs.Common.{◌≡◌, ℕ, zero, suc, ◌<◌, ◌/◌, ◌%◌, arith, Bool, true, false, cond, List, [], ◌∷◌, ◌++◌, map, length, decimal, Option, Some, None, IsUtf8, nat_lt, ◌==◌, IsAscii, nat_tests, IsUtf8-from_ascii}
 use Rattle.std.specs.Fmt.{digits, digits_onto, digit_glyph}
 use Rattle.std.proofs.lemmas.Str.{IsUtf8-append}
@@ -13,7 +13,7 @@ abbrev pub NameIn : Option (List ℕ) → Type 0
 NameIn None = Unit {0}
 NameIn (Some name) = IsUtf8 name
 
--- a number is written in ASCII
+-- The decimal digits of a number are ASCII characters.
 cons_ascii : (d : ℕ) (ds : List ℕ) → d < 128 → IsAscii ds → IsAscii (d ∷ ds)
 cons_ascii d ds h k zero = h
 cons_ascii d ds h k (suc i) = k i

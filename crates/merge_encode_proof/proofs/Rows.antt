@@ -1,4 +1,5 @@
--- What the laws ask of a module, or of the parts, holds of some, and not of all.
+-- Examples for the premises on ranges: they hold for a module and for parts with the greatest
+-- label, and not for ones with a greater label.
 use Rattle.base_lists.proofs.Common.{◌≡◌, refl, sym, ◌∙◌, ℕ, [], ◌∷◌, List, None, Bool, true, false, ◌&&◌, arith}
 use Rattle.base_lists.specs.Every.{Every}
 use Rattle.wasm_tree_spec.specs.Prelude.{fold_out-Instr, Br, Module, all_pass_step}
@@ -7,7 +8,7 @@ use Rattle.wasm_meaning.specs.Prelude.{Part}
 use Rattle.wasm_write_proof.specs.Ranges.{InRange, all_in_range, all_numbers_in, number_step, small, small_operand}
 use Rattle.merge_encode_proof.specs.Numbers.{NumbersInRange}
 
--- a module whose one function branches to this label
+-- A module whose only function branches to this label.
 abbrev branching_module : ℕ → Module
 branching_module label = record { types = record { params = []; results = [] } ∷ []; imports = []; funcs = record { ty = 0; locals = []; body = Br label ∷ [] } ∷ []; tables = []; mems = []; globals = []; exports = []; start = None; elems = []; datas = [] }
 

@@ -1,4 +1,5 @@
--- A module in range has its other numbers in range, and keeps them with other indices.
+-- A module in range has its numbers that are no indices in range, and they stay in range when its
+-- indices are replaced.
 use Rattle.base_lists.proofs.Common.{IsUtf8, right_true, ◌∙◌}
 use Rattle.base_lists.proofs.Every.{every_with, every_map}
 use Rattle.wasm_tree_spec.specs.Prelude.{ImportDesc, Import, Export, Func, GlobalDef, ElemMode, ElemSeg, DataMode, DataSeg, Module, all_operands_pass}

@@ -1,4 +1,4 @@
--- Lists that are joined by part, read at a place and made one part after the other.
+-- Lists that are joined by part: their elements at a place, and their construction part by part.
 use Rattle.base_lists.proofs.Common.{◌≡◌, ◌∙◌, sym, ap, refl, ℕ, zero, suc, ◌+◌, ◌<◌, ◌≤◌, List, [], ◌∷◌, ◌++◌, length, map, take, arith, slice_get, slice_index, Some, append_assoc, append-nil, length-map, length-append, take_all, flat_map, slice_get-map, slice_get_within, get_or_from_slice_get}
 use Rattle.base_lists.proofs.Common.{and_then_is}
 use Rattle.std.specs.Option.{option_map}
@@ -23,7 +23,7 @@ module_is [] p h = absurd (omega arith)
 module_is (part ∷ ps) zero h = (part.«module», refl)
 module_is (part ∷ ps) (suc p) h = module_is ps p (omega arith)
 
--- a part that is there has a module
+-- A part at a place within the list has a module.
 pub module_exists : (parts : List declared.Part) (p : ℕ) → p < length parts → (m : Module) × (module_at (named_modules parts) p ≡ Some m)
 module_exists parts p h = module_is (named_modules parts) p (omega (arith, h, named_length parts))
 
@@ -37,7 +37,7 @@ each_from_at f q [] p m h = cc
 each_from_at f q (part ∷ ps) zero m h = let same : part.«module» ≡ m = cc in let n : q ≡ q + 0 = omega arith in ap Some (ap (f q) same ∙ ap (λ k. f k m) n)
 each_from_at f q (part ∷ ps) (suc p) m h = let n : suc q + p ≡ q + suc p = omega arith in each_from_at f (suc q) ps p m h ∙ ap (λ k. Some (f k m)) n
 
--- the thing of the part at a place
+-- The list with an element for each part has, at a place, the element of the part there.
 pub each_at : {A : Type 0} (f : ℕ → Module → A) (ps : List Part) (p : ℕ) (m : Module) → module_at ps p ≡ Some m → slice_get (each_part f ps) p ≡ Some (f p m)
 each_at f ps p m h = each_from_at f 0 ps p m h ∙ ap (λ k. Some (f k m)) (omega arith)
 
@@ -66,12 +66,12 @@ pub sites_in_length : (p count q : ℕ) → length (sites_in p count q) ≡ coun
 sites_in_length p zero q = refl
 sites_in_length p (suc count) q = ap suc (sites_in_length p count (suc q))
 
--- the row of a part
+-- The row of a part has an entry for each of its imports.
 pub row_at : {A : Type 0} (f : Site → A) (ps : List Part) (rows : List (List A)) (p : ℕ) (m : Module) → rows ≡ by_import f ps → module_at ps p ≡ Some m →
     slice_get rows p ≡ Some (map f (sites_in p (length m.imports) 0))
 row_at f ps rows p m is at = ap (λ x. slice_get x p) (is ∙ by_import_is f ps) ∙ each_at (λ p m. map f (sites_in p (length m.imports) 0)) ps p m at
 
--- and its entry
+-- The entry of a row at a place is that of the import there.
 pub entry_at : {A : Type 0} (f : Site → A) (p count n : ℕ) → n < count → slice_get (map f (sites_in p count 0)) n ≡ Some (f (site p n))
 entry_at f p count n h = slice_get-map f (sites_in p count 0) n ∙ ap (option_map f) (site_in_at p count 0 n h ∙ ap (λ k. Some (site p k)) (omega arith))
 
@@ -89,7 +89,7 @@ part_push f q (part ∷ ps) (suc p) m h =
     ap (λ rest. f q part.«module» ++ rest) (part_push f (suc q) ps p m h ∙ ap (λ k. by_part_from f (suc q) (take p ps) ++ f k m) n)
     ∙ sym (append_assoc (f q part.«module») (by_part_from f (suc q) (take p ps)) (f (q + suc p) m))
 
--- one part more
+-- The joined list of the first parts, extended by one part.
 pub part_more : {A : Type 0} (f : ℕ → Module → List A) (ps : List Part) (p : ℕ) (m : Module) (old new : List A) → module_at ps p ≡ Some m →
     old ≡ by_part_from f 0 (take p ps) → new ≡ old ++ f p m → new ≡ by_part_from f 0 (take (p + 1) ps)
 part_more f ps p m old new at was is =
@@ -97,7 +97,7 @@ part_more f ps p m old new at was is =
     let here : 0 + p ≡ p = omega arith in
     is ∙ ap (λ x. x ++ f p m) was ∙ sym (ap (λ k. by_part_from f 0 (take k ps)) next ∙ part_push f 0 ps p m at ∙ ap (λ k. by_part_from f 0 (take p ps) ++ f k m) here)
 
--- all parts
+-- The joined list of the first parts is that of all parts once all are done.
 pub part_all : {A : Type 0} (f : ℕ → Module → List A) (parts : List declared.Part) (p : ℕ) (all : List A) → length parts ≤ p →
     all ≡ by_part_from f 0 (take p (named_modules parts)) → all ≡ by_part f (named_modules parts)
 part_all f parts p all end is = is ∙ ap (by_part_from f 0) (take_all p (named_modules parts) (omega (arith, named_length parts)))
@@ -109,7 +109,7 @@ part_short f q ps zero = omega arith
 part_short f q [] (suc k) = omega arith
 part_short f q (part ∷ ps) (suc k) = omega (arith, part_short f (suc q) ps k, length-append (f q part.«module») (by_part_from f (suc q) (take k ps)), length-append (f q part.«module») (by_part_from f (suc q) ps))
 
--- so many come before a part, and it has room
+-- The elements of the parts before a part and its own are at most those of all parts.
 pub part_room : {A : Type 0} (f : ℕ → Module → List A) (ps : List Part) (p : ℕ) (m : Module) → module_at ps p ≡ Some m → length (by_part_from f 0 (take p ps)) + length (f p m) ≤ length (by_part f ps)
 part_room f ps p m at =
     let next : p + 1 ≡ suc p = omega arith in

@@ -1,4 +1,4 @@
--- The function that calls several.
+-- The function that calls several functions.
 use Rattle.base_lists.proofs.Common.{◌≡◌, ◌∙◌, ap, ℕ, ◌≤◌, List, [], ◌∷◌, length, map, arith, unwrap_or}
 use Rattle.wasm_tree_spec.specs.Prelude.{ValType, FuncType, LocalGroup, Func, Instr, Call, same_func_type}
 use Rattle.wasm_meaning.specs.Prelude.{Part, first_place}

@@ -1,4 +1,4 @@
--- How many stay or are defined before a place.
+-- The numbers of imports that stay and of entities that are defined before a place.
 use Rattle.base_lists.proofs.Common.{◌≡◌, ◌∙◌, sym, ap, refl, ℕ, suc, ◌+◌, ◌<◌, ◌≤◌, List, [], ◌∷◌, ◌++◌, length, take, arith, Bool, true, false, cond, Some, append_assoc, append-nil, flat_map, length-append, take_all, filter-append}
 use Rattle.wasm_tree_spec.specs.Prelude.{Space, Types, Module}
 use Rattle.std.specs.Prelude.{filter}
@@ -45,7 +45,7 @@ count_all parts k p end =
     let ps = named_modules parts in
     ap (λ xs. length (filter (picked ps k) xs)) (append-nil (sites_from 0 (take p ps)) ∙ ap (sites_from 0) (take_all p ps (omega (arith, named_length parts)))) ∙ ap length (sym (staying_is ps k))
 
--- those that come before an import, and it, are not more than all that stay
+-- The imports that stay before an import, and that import if it stays, are at most all that stay.
 pub count_few : (ps : List Part) (k : Space) (p n : ℕ) (m : Module) → module_at ps p ≡ Some m → n < length m.imports → count_before ps k p n + cond (picked ps k (site p n)) 1 0 ≤ length (staying_of ps k)
 unfolding count_before
 count_few ps k p n m at h =

@@ -8,7 +8,7 @@ use Rattle.merge_spec.specs.Prelude.{new_index, start_of}
 use Rattle.merge_spec.specs.Merged.{map_of}
 use Rattle.merge_join.proofs.Holding.{fitting}
 
--- the new index of a function of the part
+-- The entry of a function of the part is its new index.
 pub func_entry : (ps : List Part) (p : ℕ) (m : Module) (f : ℕ) → f < length (funcs_of m) → slice_index (map_of ps p m).funcs f ≡ new_index ps p Functions f
 unfolding map_of
 func_entry ps p m f h = map_numbers_index (new_index ps p Functions) 0 (length (funcs_of m)) f h ∙ ap (new_index ps p Functions) (omega arith)
@@ -25,7 +25,7 @@ funcs_many : (ps : List Part) (p : ℕ) (m : Module) → length (map_of ps p m).
 unfolding map_of
 funcs_many ps p m = length-map (numbers 0 (length (funcs_of m))) (new_index ps p Functions) ∙ length-numbers 0 (length (funcs_of m))
 
--- the new index of the start
+-- The entry of the start function is its new index.
 pub start_entry : (ps : List Part) (p : ℕ) (m : Module) (r : Remap) (f : ℕ) → r ≡ map_of ps p m → f < length r.funcs → m.start ≡ Some f → slice_index r.funcs f ∷ [] ≡ start_of ps p m.start
 start_entry ps p m r f are within is =
     let inside : f < length (funcs_of m) = omega (arith, within, ap (λ x. length x.funcs) are, funcs_many ps p m) in

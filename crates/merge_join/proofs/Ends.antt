@@ -1,4 +1,4 @@
--- Ends as they are written down.
+-- The entries that ends of imports have in the list of linked ends.
 use Rattle.base_lists.proofs.Common.{◌≡◌, ap, refl, ℕ, List, Bool, false, Option, Some, None, arith, nat_tests}
 use Rattle.std.proofs.Common.{eqb}
 use Rattle.wasm_tree_spec.specs.Prelude.{Space, index_of_export}
@@ -12,7 +12,7 @@ use Rattle.merge_spec.specs.Prelude.{end_entry}
 use Rattle.merge_spec.specs.Merged.{place_of_end}
 use Rattle.merge_join.specs.LinkedParts.{site, place_at}
 
--- whether an import is this end
+-- Whether an import is this end.
 abbrev pub is_self : Site → End → Bool
 is_self s (Outside p n) = same_site s (site p n)
 is_self s (Defined p i) = false
@@ -32,7 +32,7 @@ same_part p n q k e = grind (arith, nat_tests)
 pub other_part : (p n q k : ℕ) → (q ≡ p → ⊥) → eqb q p ≡ same_site (site p n) (site q k)
 other_part p n q k ne = grind (arith, nat_tests)
 
--- the place of an end goes by what is written down of it
+-- The place of an end depends only on its entry in the list of linked ends.
 pub place_is : (ps : List Part) (k : Space) (end : linking.End) → place_of_end ps k end ≡ place_at ps k (end_entry end)
 unfolding place_of_end place_at
 place_is ps k (linking.Defined e) = refl

@@ -11,7 +11,7 @@ use Rattle.merge_spec.specs.Merged.{all_exports}
 use Rattle.merge_spec.specs.Joined.{repeated_name}
 use Rattle.merge_join.proofs.ByPart.{part_push}
 
--- the exports of one part, renumbered
+-- The exports of one part, with the new indices.
 abbrev pub new_exports : List Part → ℕ → Module → List Export
 new_exports ps p m = map (new_export (map_of ps p m)) m.exports
 
@@ -28,7 +28,7 @@ names_from qs q (part ∷ ps) =
     ∙ ap (λ ns. ns ++ map (λ e. e.name) (by_part_from (new_exports qs) (suc q) ps)) (same_names (map_of qs q part.«module») part.«module».exports)
     ∙ ap (λ ns. map (λ e. e.name) part.«module».exports ++ ns) (names_from qs (suc q) ps)
 
--- the names of the parts' exports stay
+-- The names of all exports are those that the parts give them.
 pub names_are : (ps : List Part) → export_names ps ≡ by_part_from (λ p m. map (λ e. e.name) m.exports) 0 ps
 unfolding all_exports
 names_are ps = names_from ps 0 ps
@@ -36,12 +36,12 @@ names_are ps = names_from ps 0 ps
 pub names_many : (ps : List Part) → length (export_names ps) ≡ length (all_exports ps)
 names_many ps = length-map (all_exports ps) (λ e. e.name)
 
--- where there is no conflict no name is repeated
+-- Without a conflict no name is repeated.
 pub none_repeated : (ps : List Part) (mode : Mode) (names : List Text) → names ≡ export_names ps → conflict mode names ≡ None → repeated_name ps mode ≡ None
 unfolding repeated_name
 none_repeated ps mode names same none = ap (λ o. option_and_then (slice_get (export_names ps)) o) (ap (conflict mode) (sym same) ∙ none)
 
--- otherwise the one at its place is
+-- A conflict is at the place of a repeated name.
 pub repeated_at : (ps : List Part) (mode : Mode) (names : List Text) (n : ℕ) → names ≡ export_names ps → conflict mode names ≡ Some n → slice_get names n ≡ repeated_name ps mode
 unfolding repeated_name
 repeated_at ps mode names n same at =
@@ -70,7 +70,7 @@ take_few f q zero (part ∷ ps) = omega arith
 take_few f q (suc n) (part ∷ ps) =
     omega (arith, take_few f (suc q) n ps, length-append (f q part.«module») (by_part_from f (suc q) (take n ps)), length-append (f q part.«module») (by_part_from f (suc q) ps))
 
--- the exports of the first parts and of one more are among all
+-- The exports of the first parts and of one more are at most all exports.
 pub exports_few : (ps : List Part) (p : ℕ) (m : Module) → module_at ps p ≡ Some m → length (by_part_from (new_exports ps) 0 (take p ps)) + length m.exports ≤ length (all_exports ps)
 unfolding all_exports
 exports_few ps p m at =
@@ -83,7 +83,7 @@ take_more [] n x h = cc
 take_more (y ∷ ys) zero x h = let same : y ≡ x = cc in ap (λ z. z ∷ []) same
 take_more (y ∷ ys) (suc n) x h = ap (λ zs. y ∷ zs) (take_more ys n x h)
 
--- one more export is appended
+-- The list of named exports, extended by one export.
 pub export_more : (all new : List Export) (before es : List Export) (n : ℕ) (e : Export) (r : Remap) (names : List (Option Text)) (name : Option Text) →
     all ≡ named_exports (before ++ map (new_export r) (take n es)) names → slice_get es n ≡ Some e → slice_get names (length before + n) ≡ Some name →
     new ≡ all ++ named_exports (new_export r e ∷ []) (name ∷ []) → new ≡ named_exports (before ++ map (new_export r) (take (n + 1) es)) names
@@ -97,7 +97,7 @@ export_more all new before es n e r names name was at named is =
     ∙ named_push (before ++ first) (new_export r e) names name (ap (slice_get names) (sym many) ∙ named)
     ∙ ap (λ x. named_exports x names) (append_assoc before first (new_export r e ∷ []) ∙ ap (λ x. before ++ x) (sym (ap (map (new_export r)) next ∙ map-append (new_export r) (take n es) (e ∷ []))))
 
--- the exports of one more part
+-- The exports of the first parts, extended by those of one part.
 pub exports_next : (ps : List Part) (p : ℕ) (m : Module) → module_at ps p ≡ Some m →
     by_part_from (new_exports ps) 0 (take p ps) ++ new_exports ps p m ≡ by_part_from (new_exports ps) 0 (take (p + 1) ps)
 exports_next ps p m at =

@@ -1,4 +1,4 @@
--- Where linking finds no fault, each import's end is there, and of the import's kind.
+-- If linking finds no fault, each import has an end that exists and is of the kind of the import.
 use Rattle.base_lists.proofs.Common.{◌≡◌, ◌∙◌, sym, ap, refl, subst, inl, inr, ◌⊎◌, ℕ, ◌<◌, List, [], ◌∷◌, ◌++◌, arith, slice_get, Bool, true, false, cond, Option, Some, None, ◌&&◌, and_then_is, unwrap_or_false_is, option_and_then, slice_get_within}
 use Rattle.wasm_tree_spec.specs.Prelude.{Space, Functions, Tables, Memories, Globals, Import, ImportDesc, ExportDesc, Module, funcs_of, tables_of, memories_of, globals_of, type_of_func, index_of_export, space_of_export, space_of_import}
 use Rattle.std.specs.Option.{option_map}
@@ -53,7 +53,7 @@ then_within : {A B : Type 0} (o : Option A) (f : A → Option B) (b : B) → opt
 then_within None f b h = cc
 then_within (Some a) f b h = (a, refl)
 
--- an entry that is there has its kind and is in its space
+-- An entity with an external type is of its kind and lies in its index space.
 external_there : (m : Module) (d : ExportDesc) (x : External) → external_of m d ≡ Some x → (kind_of_external x ≡ space_of_export d) × (index_of_export d < space_size (space_of_export d) m)
 external_there m (ex.Func i) x h =
     let (t, a, b) = and_then_is (type_of_func m i) (λ t. Some (FuncOf t)) x h in
@@ -89,7 +89,7 @@ suited ps s (Some x) end h e = let same : x ≡ end = cc in ap (is_suited ps s) 
 
 -- ---- ends ----
 
--- the end is there, and of this kind
+-- The end exists and is of this kind.
 abbrev pub EndThere : List Part → Space → linking.End → Type 0
 EndThere ps k (linking.Defined e) = (m : Module) × (module_at ps e.part ≡ Some m) × (space_of_export e.what ≡ k) × (index_of_export e.what < space_size k m)
 EndThere ps k (linking.Outside t) = (j : Import) × (import_at ps t ≡ Some j) × (space_of_import j.desc ≡ k)
@@ -128,7 +128,7 @@ suited_there ps s end i here h =
     let k : kind_of_external x ≡ space_of_import i.desc = sym (same_kinds d x (suits_same d end x fits)) ∙ import_of ps s d i asks here in
     subst (λ z. EndThere ps z end) k (found_there ps end x finds)
 
--- where linking finds no fault
+-- The end of an import exists if linking finds no fault.
 pub end_there : (ps : List Part) (p n : ℕ) (m : Module) (i : Import) (end : linking.End) → link_fault ps true ≡ None → module_at ps p ≡ Some m → slice_get m.imports n ≡ Some i → end_of ps (site p n) ≡ Some end → EndThere ps (space_of_import i.desc) end
 unfolding link_fault import_fault
 end_there ps p n m i end none at here ends =
@@ -175,7 +175,7 @@ gather_there : (ps : List Part) (k : Space) (end : linking.End) → EndThere ps 
 gather_there ps k (linking.Defined e) h = h
 gather_there ps k (linking.Outside t) (j, at, is) = gathered_there ps k t (import_at ps t) j at at is
 
--- an end that is there can be written down
+-- The entry of an end that exists names something that exists.
 written : (ps : List Part) (k : Space) (end : linking.End) → EndThere ps k end → EndExists ps k (end_entry end)
 written ps k (linking.Defined e) (m, at, kind, within) = (m, at, within)
 written ps k (linking.Outside t) (j, at, kind) =
@@ -186,7 +186,7 @@ entry_from : (o : Option linking.End) (e : End) → option_map end_entry o ≡ S
 entry_from None e h = cc
 entry_from (Some end) e h = let same : end_entry end ≡ e = cc in (end, refl, same)
 
--- the end of an import, as it is written down, is there
+-- The entry of the end of an import names something that exists if linking finds no fault.
 pub entry_there : (ps : List Part) (p n : ℕ) (m : Module) (i : Import) (e : End) → link_fault ps true ≡ None → module_at ps p ≡ Some m → slice_get m.imports n ≡ Some i → option_map end_entry (linked_end ps (site p n)) ≡ Some e → EndExists ps (space_of_import i.desc) e
 entry_there ps p n m i e none at here ends =
     let (linked, is, entry) = entry_from (linked_end ps (site p n)) e ends in

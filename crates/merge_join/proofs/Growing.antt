@@ -1,4 +1,4 @@
--- Lists that are made one entry after the other.
+-- Lists that are built entry by entry.
 use Rattle.std.proofs.Common.{◌≡◌, ◌∙◌, sym, ap, refl, ℕ, zero, suc, ◌+◌, ◌<◌, List, [], ◌∷◌, ◌++◌, map, take, length, arith, slice_get, get_or, Some, Bool, true, false, cond, append-nil}
 use Rattle.wasm_meaning.specs.Linking.{places}
 
@@ -32,13 +32,13 @@ places_next test xs n x h =
     let z : 0 + n ≡ n = omega arith in
     ap (λ k. places test (take k xs) 0) next ∙ places_push test xs n x 0 h ∙ ap (λ k. places test (take n xs) 0 ++ cond (test x) (k ∷ []) []) z
 
--- one more place whose element passes the test
+-- The list of places grows by a place whose element passes the test.
 pub place_kept : {A B : Type 0} (test : A → Bool) (f : ℕ → B) (xs : List A) (n : ℕ) (x : A) (old new : List B) → slice_get xs n ≡ Some x → test x ≡ true → old ≡ map f (places test (take n xs) 0) → new ≡ old ++ f n ∷ [] →
     new ≡ map f (places test (take (n + 1) xs) 0)
 place_kept test f xs n x old new at kept was is =
     is ∙ ap (λ l. l ++ f n ∷ []) was ∙ sym (ap (map f) (places_next test xs n x at ∙ ap (λ b. places test (take n xs) 0 ++ cond b (n ∷ []) []) kept) ∙ map_join f (places test (take n xs) 0) (n ∷ []))
 
--- and one that does not
+-- The list of places does not grow at a place whose element does not pass the test.
 pub place_left : {A B : Type 0} (test : A → Bool) (f : ℕ → B) (xs : List A) (n : ℕ) (x : A) (old : List B) → slice_get xs n ≡ Some x → test x ≡ false → old ≡ map f (places test (take n xs) 0) → old ≡ map f (places test (take (n + 1) xs) 0)
 place_left test f xs n x old at left was =
     was ∙ sym (append-nil (map f (places test (take n xs) 0))) ∙ sym (ap (map f) (places_next test xs n x at ∙ ap (λ b. places test (take n xs) 0 ++ cond b (n ∷ []) []) left) ∙ map_join f (places test (take n xs) 0) [])

@@ -1,11 +1,11 @@
--- What has entries in a map that fits.
+-- The indices of a module that have entries in a map that fits it.
 use Rattle.base_lists.proofs.Common.{◌≡◌, sym, subst, ℕ, ◌<◌, List, length, IsTrue, get_or, list_all, left_true, right_true}
 use Rattle.wasm_tree_spec.specs.Prelude.{Import, Module}
 use Rattle.index_remap.specs.declared.remap.Remap.{Remap}
 use Rattle.index_remap.specs.Prelude.{fits_func, fits_tree, fits_import, fits_import_desc, fits_global, fits_export, fits_start, fits_elem, fits_data}
 use Rattle.base_lists.proofs.Each.{all_at_place}
 
--- so much of a tree as has entries
+-- The map has an entry for each index that these parts of a tree name.
 pub record Fitting (r : Remap) (m : Module) : Type 0 where
   pub imports : IsTrue (list_all (fits_import r) m.imports)
   pub funcs : IsTrue (list_all (fits_func r) m.funcs)

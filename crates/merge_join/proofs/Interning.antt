@@ -1,4 +1,4 @@
--- Types that are added where they are not there yet, looked up by their texts.
+-- Types that are added unless they are in the list already, looked up by their texts.
 use Rattle.base_lists.proofs.Common.{◌≡◌, ◌∙◌, sym, ap, refl, inl, inr, ℕ, suc, ◌+◌, List, [], ◌∷◌, ◌++◌, length, arith, ◌≤◌, Bool, true, false, cond, is_some, Option, Some, None, ◌||◌, list_any, bytes_eq, cases_Bool, length_push, bytes_eq-Decides}
 use Rattle.wasm_tree_spec.specs.Prelude.{FuncType, same_func_type}
 use Rattle.wasm_meaning.specs.Prelude.{first_place}
@@ -34,7 +34,7 @@ any_is is (x ∷ xs) n = ap (λ (b : Bool). is x || b) (any_is is xs (suc n)) �
 abbrev pub has_text : List ℕ → FuncType → Bool
 has_text q t = bytes_eq q (text_of_type t)
 
--- the place of a type is that of its text
+-- The place of a type is that of its text.
 pub place_by_text : (ty : FuncType) (types : List FuncType) → first_place (has_text (text_of_type ty)) types 0 ≡ first_place (same_func_type ty) types 0
 place_by_text ty types = place_congr (has_text (text_of_type ty)) (same_func_type ty) types 0 (λ t. sym (same_by_text ty t))
 
@@ -53,19 +53,19 @@ equal_swap x y = tests (bytes_eq x y) (bytes_eq y x)
     tests true false f g = sym (f refl)
     tests true true f g = refl
 
--- a type that is there adds nothing
+-- A type that is in the list already adds nothing.
 pub known_type : (types : List FuncType) (ty : FuncType) → is_some (first_place (has_text (text_of_type ty)) types 0) ≡ true → types ≡ with_type types ty
 known_type types ty h =
     let there : list_any (same_func_type ty) types ≡ true = any_is (same_func_type ty) types 0 ∙ ap is_some (sym (place_by_text ty types)) ∙ h in
     sym (ap (λ (b : Bool). cond b types (types ++ ty ∷ [])) there)
 
--- and one that is not goes behind the others
+-- A type that is not in the list is appended.
 pub new_type : (types : List FuncType) (ty : FuncType) → is_some (first_place (has_text (text_of_type ty)) types 0) ≡ false → types ++ ty ∷ [] ≡ with_type types ty
 new_type types ty h =
     let missing : list_any (same_func_type ty) types ≡ false = any_is (same_func_type ty) types 0 ∙ ap is_some (sym (place_by_text ty types)) ∙ h in
     sym (ap (λ (b : Bool). cond b types (types ++ ty ∷ [])) missing)
 
--- places by text after a type was added
+-- The places of texts after a type is appended.
 pub new_place : (types : List FuncType) (ty : FuncType) (q : List ℕ) → is_some (first_place (has_text (text_of_type ty)) types 0) ≡ false →
     cond (bytes_eq (text_of_type ty) q) (Some (length types)) (first_place (has_text q) types 0) ≡ first_place (has_text q) (types ++ ty ∷ []) 0
 new_place types ty q h = sym (place_push (has_text q) types ty 0 ∙ elim (cases_Bool (bytes_eq (text_of_type ty) q)) [

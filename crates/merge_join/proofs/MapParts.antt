@@ -9,7 +9,7 @@ use Rattle.merge_spec.specs.Merged.{place_of_type, map_of}
 use Rattle.merge_join.specs.LinkedParts.{space_size}
 use Rattle.merge_join.proofs.SpaceSizes.{funcs_size, tables_size, memories_size, globals_size}
 
--- the new indices of a space, where its parts and its index space are these
+-- The new indices of an index space of a part, for equal parts and equal index spaces.
 pub space_is : (qs parts : List declared.Part) (of k : Space) (p : ℕ) (new : List ℕ) → qs ≡ parts → of ≡ k
     → ((m : Module) → module_at (named_modules qs) p ≡ Some m → new ≡ map (new_index (named_modules qs) p of) (numbers 0 (space_size of m)))
     → (m : Module) → module_at (named_modules parts) p ≡ Some m → new ≡ map (new_index (named_modules parts) p k) (numbers 0 (space_size k m))
@@ -20,7 +20,7 @@ space_is qs parts of k p new same is h =
 abbrev pub built : (types funcs tables mems globals elems datas : List ℕ) → Remap
 built types funcs tables mems globals elems datas = record { types = types; funcs = funcs; tables = tables; mems = mems; globals = globals; elems = elems; datas = datas }
 
--- the lists that make the map of a part
+-- The lists that make up the map of a part.
 pub record AreLists (ps : List Part) (p : ℕ) (m : Module) (types funcs tables mems globals elems datas : List ℕ) : Type 0 where
   pub types_are : types ≡ map (λ t. unwrap_or (first_place (same_func_type t) (merged_types ps) 0) 0) m.types
   pub funcs_are : funcs ≡ map (new_index ps p Functions) (numbers 0 (space_size Functions m))

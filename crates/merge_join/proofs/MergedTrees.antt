@@ -24,7 +24,8 @@ built types imports funcs tables mems globals exports start elems datas = record
   datas = datas;
 }
 
--- what the parts define, with what is made of them together round it
+-- The definitions of the parts in one tree, with the types, imports, exports and start of the
+-- merged module, and with its last functions.
 abbrev pub framed : Module → Module → Module
 framed f t = record t { types = f.types; imports = f.imports; funcs = t.funcs ++ f.funcs; exports = f.exports; start = f.start }
 
@@ -58,7 +59,7 @@ calls_few ps [] = omega arith
 calls_few ps (f ∷ []) = omega arith
 calls_few ps (f ∷ g ∷ fs) = omega arith
 
--- an import of the merged module adds a function where the part's import does
+-- An import of the merged module adds a function exactly if the import of the part does.
 func_there : (ps : List Part) (s : Site) → is_some (option_and_then (λ i. func_of i.desc) (merged_import ps s)) ≡ imports_kind ps Functions s
 unfolding merged_import
 func_there ps s = at_part (module_at ps s.part)

@@ -1,4 +1,4 @@
--- What is moved of a part is what the merged module has of it.
+-- The definitions that are moved from a part are those that the merged module has of it.
 use Rattle.base_lists.proofs.Common.{◌≡◌, ◌∙◌, ap, ap₂, sym, subst, refl, ℕ, suc, ◌+◌, ◌≤◌, List, [], ◌∷◌, ◌++◌, map, take, length, Some, None, Option, slice_get, slice_index, unwrap_or, option_and_then, arith, slice_get_within, take_all, map_at}
 use Rattle.wasm_tree_spec.specs.Prelude.{ConstExpr, GlobalDef, Func, TableType, Limits, RefType, ElemMode, ElemSeg, DataMode, DataSeg, Module, ValType, I32, Ref}
 use Rattle.wasm_tree.specs.declared.module.ConstExpr.TheVariants as const
@@ -25,7 +25,7 @@ map_alike f g (x ∷ xs) h = ap₂ (λ y ys. y ∷ ys) (h 0 x refl) (map_alike f
 same_item : {A : Type 0} (x y : A) (o : Option A) → o ≡ Some x → o ≡ Some y → x ≡ y
 same_item x y o h k = let both : Some x ≡ Some y = sym h ∙ k in cc
 
--- an element segment of a part
+-- The typing of an element segment of a part.
 record ElemHeld (m : Module) (s : ElemSeg) : Type 0 where
   items : (j : ℕ) (e : ConstExpr) → slice_get s.items j ≡ Some e → const_type m e ≡ Some (Ref s.ty)
   mode : ElemModeHolds m s.ty s.mode
@@ -41,7 +41,7 @@ behind t funcs tables mems globals elems datas =
       datas = t.datas ++ datas;
     }
 
--- the tree, with what the merged module has of a part behind its own
+-- The tree with the definitions that the merged module has of a part appended.
 abbrev with_part : List Part → ℕ → Module → Module → Module
 with_part ps p m t =
     behind t (map (new_func (map_of ps p m)) m.funcs) m.tables m.mems (map (merged_global ps p) m.globals) (map (merged_elem ps p (map_of ps p m)) m.elems) (map (merged_data ps p (map_of ps p m)) m.datas)
@@ -98,7 +98,7 @@ module _ (law : ValidWhereItemsHold) (ps : List Part) (p : ℕ) (m : Module) (va
 
 -- ---- part after part ----
 
--- what these parts define of all, in an otherwise empty tree
+-- The definitions of some of the parts, in an otherwise empty tree.
 abbrev pub filled : (ps some : List Part) → Module
 filled ps some = record {
   types = [];
@@ -127,7 +127,7 @@ made funcs tables mems globals elems datas = record {
   datas = datas;
 }
 
--- one part more
+-- The definitions of the first parts, extended by those of one part.
 filled_more : (ps : List Part) (p : ℕ) (m : Module) → module_at ps p ≡ Some m → with_part ps p m (filled ps (take p ps)) ≡ filled ps (take (p + 1) ps)
 filled_more ps p m at =
     let old = filled ps (take p ps) in
@@ -140,13 +140,13 @@ filled_more ps p m at =
     ∙ ap (λ x. made t.funcs t.tables t.mems t.globals x new.datas) (part_more (λ p m. map (merged_elem ps p (map_of ps p m)) m.elems) ps p m old.elems new.elems at refl refl)
     ∙ ap (made t.funcs t.tables t.mems t.globals t.elems) (part_more (λ p m. map (merged_data ps p (map_of ps p m)) m.datas) ps p m old.datas new.datas at refl refl)
 
--- a part of which this was moved, with this map and these values
+-- The tree holds the definitions of one more part once these are moved by its map and values.
 pub moved_more : ValidWhereItemsHold → (ps : List Part) (p : ℕ) (m : Module) (r : Remap) (values : List ConstExpr) (old new : Module) → module_at ps p ≡ Some m → IsValid m → r ≡ map_of ps p m → AreValues ps p values →
     old ≡ filled ps (take p ps) → new ≡ with_moved r values m old → new ≡ filled ps (take (p + 1) ps)
 moved_more law ps p m r values old new at valid is are was now =
     now ∙ ap (λ r. with_moved r values m old) is ∙ module_moved law ps p m values at valid are old ∙ ap (with_part ps p m) was ∙ filled_more ps p m at
 
--- all parts
+-- The tree holds the definitions of all parts once all parts are moved.
 pub moved_all : (parts : List declared.Part) (p : ℕ) (tree : Module) → length parts ≤ p → tree ≡ filled (named_modules parts) (take p (named_modules parts)) → IsMoved (named_modules parts) tree
 unfolding defined_funcs
 moved_all parts p tree end is =
@@ -161,6 +161,5 @@ moved_all parts p tree end is =
       datas_are = ap (λ (m : Module). m.datas) all;
     }
 
--- the module of a part at a place
 pub module_of_part : (parts : List declared.Part) (n : ℕ) (x : declared.Part) → slice_get parts n ≡ Some x → module_at (named_modules parts) n ≡ Some x.«module»
 module_of_part parts n x h = ap (λ o. option_and_then {T = Part} {U = Module} (λ part. Some part.«module») o) (map_at named_module parts n x h)

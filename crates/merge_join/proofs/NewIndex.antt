@@ -10,7 +10,7 @@ use Rattle.merge_spec.specs.Merged.{place_of_entry, new_index}
 use Rattle.merge_join.specs.LinkedParts.{site, place_at}
 use Rattle.merge_join.proofs.Ends.{place_is}
 
--- by the import that the entry is, if it is one
+-- The new index of an entry depends on the import that adds the entry, if one does.
 index_is : (ps : List Part) (p : ℕ) (k : Space) (i : ℕ) (m : Module) (o : Option ℕ) → module_at ps p ≡ Some m → slice_get (imports_of k m) i ≡ o → new_index ps p k i ≡ unwrap_or (place_of_entry ps p k i o) 0
 unfolding new_index
 index_is ps p k i m o at is =
@@ -20,7 +20,7 @@ ended : (ps : List Part) (k : Space) (o : Option linking.End) (e : End) → opti
 ended ps k None e h = cc
 ended ps k (Some end) e h = let same : end_entry end ≡ e = cc in place_is ps k end ∙ ap (place_at ps k) same
 
--- of one that is imported: the place of its end
+-- The new index of an imported entry is the place of its end.
 pub new_index_at : (ps : List Part) (p : ℕ) (k : Space) (i n : ℕ) (m : Module) (e : End) → module_at ps p ≡ Some m → slice_get (imports_of k m) i ≡ Some n → option_map end_entry (linked_end ps (site p n)) ≡ Some e → new_index ps p k i ≡ place_at ps k e
 new_index_at ps p k i n m e at here ends = index_is ps p k i m (Some n) at here ∙ ended ps k (linked_end ps (site p n)) e ends
 
@@ -29,7 +29,8 @@ place_past [] i h = refl
 place_past (x ∷ xs) zero h = absurd (omega arith)
 place_past (x ∷ xs) (suc i) h = place_past xs i (omega arith)
 
--- of one that the part defines: so far behind the first
+-- The new index of a defined entry is behind the imports that stay and the definitions of the parts
+-- before.
 pub new_index_own : (ps : List Part) (p : ℕ) (k : Space) (j : ℕ) (m : Module) → module_at ps p ≡ Some m → new_index ps p k (length (imports_of k m) + j) ≡ length (staying_of ps k) + defined_before k ps p + j
 new_index_own ps p k j m at =
     let i = length (imports_of k m) + j in
@@ -51,11 +52,11 @@ places_there is (y ∷ ys) x (suc i) n h held =
     step true all some h = h
     step false all some h = h
 
--- an import of a kind stands behind those before it
+-- The place of an import among those of its kind is the number of these before it.
 pub import_place : {A : Type 0} (is : A → Bool) (xs : List A) (x : A) (i : ℕ) → slice_get xs i ≡ Some x → is x ≡ true → slice_get (places is xs 0) (length (places is (take i xs) 0)) ≡ Some i
 import_place is xs x i h held = let e : 0 + i ≡ i = omega arith in places_there is xs x i 0 h held ∙ ap Some e
 
--- the new indices of what a part defines
+-- The new indices of the entries that a part defines are consecutive.
 pub own_indices : (ps : List Part) (p : ℕ) (k : Space) (m : Module) (n : ℕ) → module_at ps p ≡ Some m → map (new_index ps p k) (numbers (length (imports_of k m)) n) ≡ numbers (length (staying_of ps k) + defined_before k ps p) n
 own_indices ps p k m n at = let a : length (imports_of k m) + 0 ≡ length (imports_of k m) = omega arith in let b : length (staying_of ps k) + defined_before k ps p + 0 ≡ length (staying_of ps k) + defined_before k ps p = omega arith in
     ap (λ x. map (new_index ps p k) (numbers x n)) (sym a) ∙ own_from n 0 ∙ ap (λ x. numbers x n) b
@@ -68,7 +69,7 @@ own_indices ps p k m n at = let a : length (imports_of k m) + 0 ≡ length (impo
         ap (λ x. x ∷ map (new_index ps p k) (numbers (suc (length (imports_of k m) + j)) n)) (new_index_own ps p k j m at)
         ∙ ap (λ rest. (length (staying_of ps k) + defined_before k ps p + j) ∷ rest) (ap (λ x. map (new_index ps p k) (numbers x n)) a ∙ own_from n (suc j) ∙ ap (λ x. numbers x n) b)
 
--- a part's whole index space
+-- The new indices of a whole index space of a part.
 pub all_indices : (ps : List Part) (p : ℕ) (k : Space) (m : Module) (n : ℕ) → module_at ps p ≡ Some m →
     map (new_index ps p k) (numbers 0 (length (imports_of k m))) ++ numbers (length (staying_of ps k) + defined_before k ps p) n ≡ map (new_index ps p k) (numbers 0 (length (imports_of k m) + n))
 all_indices ps p k m n at =

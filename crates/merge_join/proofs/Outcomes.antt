@@ -1,11 +1,11 @@
--- What the outcome of joining says.
+-- The consequences of each outcome of joining.
 use Rattle.base_lists.proofs.Common.{◌≡◌, ◌∙◌, ap, refl, Option, Some, None, Ok, Err}
 use Rattle.wasm_tree_spec.specs.Prelude.{Which, Module}
 use Rattle.wasm_meaning.specs.Prelude.{Text}
 use Rattle.merge_spec.specs.declared.faults.JoinFault.TheVariants.{TooMany}
 use Rattle.merge_spec.specs.Joined.{outcome}
 
--- a module comes only where there is no conflict and no count too many
+-- Joining gives a module only if there is no conflict of names and no count above its limit.
 pub record IsJoined (name : Option Text) (which : Option Which) (m t : Module) : Type 0 where
   pub no_name : name ≡ None
   pub no_count : which ≡ None

@@ -1,4 +1,4 @@
--- The parts of what is joined and their maps, at a place.
+-- The parts that are joined and their maps, at a place.
 use Rattle.base_lists.proofs.Common.{◌≡◌, ◌∙◌, sym, ap, ℕ, List, length, slice_get, get_or, Some, get_or_from_slice_get}
 use Rattle.wasm_tree_spec.specs.Prelude.{Module}
 use Rattle.wasm_meaning.specs.Prelude.{Part, module_at}

@@ -1,4 +1,5 @@
--- What a constant expression of a part becomes, by what is read through the part's imported globals.
+-- The constant expressions of a part in the merged module, by the reads through the imported
+-- globals of the part.
 use Rattle.base_lists.proofs.Common.{◌≡◌, ◌∙◌, ap, sym, subst, refl, ℕ, zero, suc, ◌+◌, ◌<◌, List, [], ◌∷◌, length, Option, Some, None, Bool, true, false, cond, ◌&&◌, not, nat_lt, arith, slice_get, get_or, option_and_then, unwrap_or, is_some, cons_option, ltb-true, slice_get-map, slice_get_within}
 use Rattle.base_lists.proofs.Common.{get_or_from_slice_get, and_then_is, left_true, right_true, only_true, not-true, append_left, map}
 use Rattle.wasm_tree_spec.specs.Prelude.{Globals, ValType, GlobalType, Import, ConstExpr, Module, globals_of, global_of, imported_globals, GlobalDef}
@@ -22,7 +23,7 @@ use Rattle.merge_join.specs.Reads.{AreReads, HasType}
 
 -- ---- an imported global ----
 
--- where the import of a global stands
+-- The import that adds a global, and its place.
 record Found (is : List Import) (from x : ℕ) (g : GlobalType) : Type 0 where
   n : ℕ
   import : Import
@@ -67,7 +68,7 @@ found (i ∷ is) from x g h = by (λ x h. found is (suc from) x g h) (global_of 
         }
     by more (Some c) true e k t (suc x) h = let f = more x h in on x (suc x) true k f refl (ap suc f.index)
 
--- an imported immutable global
+-- Global `x` is imported and immutable.
 pub record ReadsGlobal (m : Module) (x : ℕ) : Type 0 where
   pub global : GlobalType
   pub at : slice_get (imported_globals m.imports) x ≡ Some global
@@ -80,7 +81,7 @@ reads_global m x ty h =
     let lt = ltb-true _ _ (left_true _ _ b) in
     record { global = g.0; at = sym (append_left (imported_globals m.imports) (map (λ (d : GlobalDef). d.ty) m.globals) x lt) ∙ g.1; fixed = not-true g.0.mutable (right_true (nat_lt x (length (imported_globals m.imports))) _ b) }
 
--- the entry of an imported global is what reading it gives
+-- The entry of an imported global in the list of reads is the result of reading it.
 module _ (ps : List Part) (p : ℕ) (reads : List (Option Read)) (are : AreReads ps p reads) (x : ℕ) (typed : HasType ps p (const.Global x)) where
   abbrev of : Module
   of = typed.0
@@ -145,7 +146,7 @@ becomes_new ps p (const.Null t) m not at = becomes_read ps p (const.Null t) (rec
 becomes_new ps p (const.Func f) m not at = becomes_read ps p (const.Func f) (record { part = p; expr = const.Func f }) m refl at
 becomes_new ps p (const.Global x) m not at = absurd (not x refl)
 
--- what is read has an entry in the map of its part
+-- The entity that a read ends at has an entry in the map of its part.
 abbrev pub ReadsHaveEntries : Type 0
 ReadsHaveEntries = (ps : List Part) (p : ℕ) (m : Module) (e : ConstExpr) (ty : ValType) (r : linking.Read) → EachPart IsValid ps → link_fault ps true ≡ None → module_at ps p ≡ Some m → const_type m e ≡ Some ty → read_of ps p e ≡ Some r → HasEntry ps r
 

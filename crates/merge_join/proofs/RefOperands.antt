@@ -1,4 +1,5 @@
--- What `ref.func` names in code, as operands of the code, and in code with other indices.
+-- The functions that `ref.func` names in code: as operands of the code, and in the code with new
+-- indices.
 use Rattle.base_lists.proofs.Common.{◌≡◌, ◌∙◌, refl, sym, ap, ap₂, ℕ, Bool, true, false, ◌&&◌, ◌||◌, not, List, [], ◌∷◌, ◌++◌, map, slice_index, flat_map, list_all, list_all-append, and_from, and_parts, cond, Option, Some, None, cons_option, filter_map}
 use Rattle.base_lists.specs.Every.{Every}
 use Rattle.wasm_tree_spec.specs.Prelude.{Space, Functions, Operand, Instr, fold_out-Instr, map-Instr, out-Instr, same_space, operands, operands_of, held, operands_pass, all_operands_pass}
@@ -8,7 +9,7 @@ use Rattle.wasm_tree.proofs.OperandLaws.{operands_map, held_map, by_held}
 use Rattle.index_remap.specs.declared.remap.Remap.{Remap}
 use Rattle.index_remap.specs.Prelude.{entry, entries, has, has_entry, fits_all, renumbered_all, refs, refs_all, refs_step, referred}
 
--- whether a function passes, where the operand is one that `ref.func` names
+-- Whether the function of an operand of `ref.func` passes the test. Any other operand passes.
 abbrev ref_passes : (ℕ → Bool) → Operand → Bool
 ref_passes test o = o.called || (not (same_space o.space Functions) || test o.index)
 
@@ -55,7 +56,7 @@ module _ (passes_inside : PassesInside) (test : ℕ → Bool) where
   refs_pass : (is : List Instr) → list_all test (refs_all is) ≡ all_operands_pass (ref_passes test) is
   refs_pass is = all_joined (map refs is) ∙ all_same is (each_same is)
 
--- code passes a test of operands where two others, which it passes, imply it
+-- Code passes a test of operands if it passes two others that together imply the test.
 module _ (passes_inside : PassesInside) (p q r : Operand → Bool) (then : (o : Operand) → p o ≡ true → q o ≡ true → r o ≡ true) where
   abbrev Follows : Instr → Type 0
   Follows i = operands_pass p i ≡ true → operands_pass q i ≡ true → operands_pass r i ≡ true
@@ -86,7 +87,8 @@ module _ (passes_inside : PassesInside) (p q r : Operand → Bool) (then : (o : 
   all_follow : (is : List Instr) → all_operands_pass p is ≡ true → all_operands_pass q is ≡ true → all_operands_pass r is ≡ true
   all_follow is = code_follows is (each_follows is)
 
--- what `ref.func` names in code with other indices passes where what it names in the code does
+-- The functions that `ref.func` names in code with new indices pass the new test if the functions
+-- that it names in the code pass the old one.
 module _ (passes_inside : PassesInside) (mapped_code_passes : MappedCodePasses) (m : Remap) (old new : ℕ → Bool) (kept : (f : ℕ) → has m.funcs f ≡ true → old f ≡ true → new (slice_index m.funcs f) ≡ true) where
   operand_kept : (s : Space) (x : ℕ) (called : Bool) → has (entries m s) x ≡ true → (called || (not (same_space s Functions) || old x)) ≡ true → (called || (not (same_space s Functions) || new (entry m s x))) ≡ true
   operand_kept s x true h k = refl

@@ -1,4 +1,4 @@
--- What holds where a call gave a value.
+-- The properties of the value that a successful call gives.
 use Rattle.std.proofs.Common.{◌≡◌, false, Ok, Err, Result, OnOk}
 use Rattle.std.specs.Result.{is_err}
 

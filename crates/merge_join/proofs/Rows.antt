@@ -5,7 +5,7 @@ use Rattle.merge_spec.specs.Prelude.{by_import}
 use Rattle.merge_join.specs.LinkedParts.{site, IsSite}
 use Rattle.merge_join.proofs.ByPart.{row_at, entry_at, sites_in_length}
 
--- what the reads of a row and of its entry need and give
+-- The bounds of the reads of a row and of its entry, and the entry that they give.
 pub record IsRow {A : Type 0} (f : Site → A) (rows : List (List A)) (p n : ℕ) : Type 0 where
   pub part_within : p < length rows
   pub import_within : (row : List A) → row ≡ get_or rows p row → n < length row
@@ -26,7 +26,7 @@ map_get_or g [] i d e h = absurd (omega arith)
 map_get_or g (x ∷ xs) zero d e h = refl
 map_get_or g (x ∷ xs) (suc i) d e h = map_get_or g xs i d e (omega arith)
 
--- the same of rows in which each entry is there
+-- The bounds and the result of these reads for rows in which each entry exists.
 pub record IsFullRow {A : Type 0} (f : Site → Option A) (rows : List (List A)) (p n : ℕ) : Type 0 where
   pub part_within : p < length rows
   pub import_within : (row : List A) → row ≡ get_or rows p row → n < length row

@@ -1,4 +1,4 @@
--- The imports of all parts, one after the other, and those of a kind that stay.
+-- The imports of all parts in order, and those of a kind that stay.
 use Rattle.base_lists.proofs.Common.{◌≡◌, ◌∙◌, sym, ap, refl, inl, inr, ℕ, zero, suc, ◌+◌, ◌-◌, ◌<◌, ◌≤◌, List, [], ◌∷◌, ◌++◌, length, take, arith, slice_get, Bool, true, false, cond, Some, None, append_assoc, ◌&&◌, cases_Bool, nat_tests, length-append, filter-append}
 use Rattle.wasm_tree_spec.specs.Prelude.{Space, Module}
 use Rattle.std.specs.Prelude.{filter}
@@ -25,7 +25,7 @@ places_from_push is (y ∷ ys) x n (suc i) h =
     step true a c d e = ap (λ z. n ∷ z) e
     step false a c d e = e
 
--- one import more
+-- The places of the imports of a kind, with one more import.
 pub places_push : {A : Type 0} (is : A → Bool) (xs : List A) (x : A) (i : ℕ) → slice_get xs i ≡ Some x → places is (take (i + 1) xs) 0 ≡ places is (take i xs) 0 ++ cond (is x) (i ∷ []) []
 places_push is xs x i h =
     let e : i + 1 ≡ suc i = omega arith in
@@ -66,7 +66,7 @@ from_split q (part ∷ ps) (suc p) m h =
     let front = sites_in q (length part.«module».imports) 0 in
     (rest, ap (λ x. front ++ x) (is ∙ ap (λ k. sites_from (suc q) (take p ps) ++ (sites_in k (length m.imports) 0 ++ rest)) e) ∙ sym (append_assoc front (sites_from (suc q) (take p ps)) (sites_in (q + suc p) (length m.imports) 0 ++ rest)))
 
--- a site stands behind those before it
+-- The list of all sites is split at a site: the sites before it, the site, and the rest.
 pub sites_split : (ps : List Part) (p n : ℕ) (m : Module) → module_at ps p ≡ Some m → n < length m.imports → (rest : List Site) × (sites ps ≡ sites_before ps p n ++ site p n ∷ rest)
 sites_split ps p n m at h =
     let (rest, is) = from_split 0 ps p m at in
@@ -124,7 +124,7 @@ apart_filter s q (x ∷ xs) a = case (q x) (apart_filter s q xs a.1)
 
 -- ---- places among those that are picked ----
 
--- behind sites from which it differs
+-- The place of a site behind sites from which it differs is its place in the rest.
 place_behind : (s : Site) (xs ys : List Site) (n : ℕ) → Apart s xs → first_place (same_site s) (xs ++ ys) n ≡ first_place (same_site s) ys (n + length xs)
 place_behind s [] ys n a = let e : n ≡ n + 0 = omega arith in ap (first_place (same_site s) ys) e
 place_behind s (x ∷ xs) ys n a =
@@ -140,7 +140,7 @@ site_same p n q k h =
     let b : n ≡ k = grind (arith, nat_tests) in
     ap (λ x. site x n) a ∙ ap (site q) b
 
--- a site that is not picked has no place
+-- A site that is not picked has no place.
 none_picked : (s : Site) (q : Site → Bool) (xs : List Site) (n : ℕ) → q s ≡ false → first_place (same_site s) (filter q xs) n ≡ None
 none_picked s q [] n h = refl
 none_picked s q (x ∷ xs) n h = case (q x) refl (none_picked s q xs n h) (none_picked s q xs (suc n) h)
@@ -164,7 +164,7 @@ pub staying_is : (ps : List Part) (k : Space) → staying_of ps k ≡ filter (pi
 unfolding staying_of staying
 staying_is ps k = filter_join (stays ps) (imports_kind ps k) (sites ps)
 
--- the place of an import among those that are picked
+-- The place of an import among those that are picked is the number of these before it.
 pub staying_place_is : (ps : List Part) (k : Space) (p n : ℕ) (m : Module) → module_at ps p ≡ Some m → n < length m.imports →
     staying_place ps k (site p n) ≡ cond (picked ps k (site p n)) (Some (count_before ps k p n)) None
 unfolding count_before

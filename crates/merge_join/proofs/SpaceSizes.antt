@@ -1,10 +1,10 @@
--- The sizes of the index spaces, by what is imported and what is defined.
+-- The sizes of the index spaces, from the numbers of imports and of definitions.
 use Rattle.base_lists.proofs.Common.{◌≡◌, ◌∙◌, sym, ap, arith, ◌+◌, List, length, map, length-append, length-map, places_many}
 use Rattle.wasm_tree_spec.specs.Prelude.{Functions, Tables, Memories, Globals, Import, Module, func_of, table_of, memory_of, global_of, imported_funcs, imported_tables, imported_memories, imported_globals, funcs_of, tables_of, memories_of, globals_of}
 use Rattle.wasm_meaning.specs.Prelude.{places, has_kind}
 use Rattle.merge_join.specs.LinkedParts.{space_size}
 
--- as many of a space are imported as there are places of its imports
+-- The number of imported entries of an index space is the number of places of its imports.
 functions_many : (is : List Import) → length (places (has_kind Functions) is 0) ≡ length (imported_funcs is)
 functions_many is = places_many (has_kind Functions) (λ i. func_of i.desc) is (λ i. grind arith) 0
 

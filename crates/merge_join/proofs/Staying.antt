@@ -1,4 +1,4 @@
--- The imports that stay, one after the other.
+-- The imports that stay, in order.
 use Rattle.base_lists.proofs.Common.{◌≡◌, ◌∙◌, sym, ap, refl, ℕ, suc, ◌+◌, ◌<◌, List, [], ◌∷◌, ◌++◌, length, Option, Some, None, Bool, true, false, cond, slice_get, get_or, append_assoc, append-nil, option_and_then, filter, filter_map, cons_option, filter-append, filter_map-append, slice_get-get_or}
 use Rattle.merge_join.proofs.Sites.{sites_in_more}
 use Rattle.wasm_tree_spec.specs.Prelude.{Limits, Import, ImportDesc, Module}
@@ -50,14 +50,14 @@ module _ {A : Type 0} (test : Site → Bool) (f : Site → Option A) where
   kept_next : (p n : ℕ) → filter_map f (filter test (sites_in p (n + 1) 0)) ≡ filter_map f (filter test (sites_in p n 0)) ++ filter_map f (cond (test (site p n)) (site p n ∷ []) [])
   kept_next p n = ap (λ l. filter_map f (filter test l)) (sites_in_more p n) ∙ ap (filter_map f) (filter-append test (sites_in p n 0) (site p n ∷ [])) ∙ filter_map-append f (filter test (sites_in p n 0)) (cond (test (site p n)) (site p n ∷ []) [])
 
-  -- one import more that stays
+  -- The list of imports that stay, extended by one import that stays.
   pub import_more : (p n : ℕ) (first old new : List A) (x : A) → test (site p n) ≡ true → f (site p n) ≡ Some x → old ≡ first ++ filter_map f (filter test (sites_in p n 0)) → new ≡ old ++ x ∷ [] → new ≡ first ++ filter_map f (filter test (sites_in p (n + 1) 0))
   import_more p n first old new x stay is was now =
       let more : filter_map f (cond (test (site p n)) (site p n ∷ []) []) ≡ x ∷ [] = ap (λ b. filter_map f (cond b (site p n ∷ []) [])) stay ∙ ap (λ o. cons_option o []) is in
       now ∙ ap (λ l. l ++ x ∷ []) was ∙ append_assoc first (filter_map f (filter test (sites_in p n 0))) (x ∷ [])
       ∙ ap (λ l. first ++ l) (sym (kept_next p n ∙ ap (λ l. filter_map f (filter test (sites_in p n 0)) ++ l) more))
 
-  -- and one that does not
+  -- The list of imports that stay does not change at an import that does not stay.
   pub import_less : (p n : ℕ) (first old : List A) → test (site p n) ≡ false → old ≡ first ++ filter_map f (filter test (sites_in p n 0)) → old ≡ first ++ filter_map f (filter test (sites_in p (n + 1) 0))
   import_less p n first old goes was =
       was ∙ ap (λ l. first ++ l) (sym (kept_next p n ∙ ap (λ b. filter_map f (filter test (sites_in p n 0)) ++ filter_map f (cond b (site p n ∷ []) [])) goes ∙ append-nil (filter_map f (filter test (sites_in p n 0)))))

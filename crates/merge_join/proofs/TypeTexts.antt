@@ -1,4 +1,4 @@
--- Two function types are equal exactly where their texts are.
+-- Two function types are equal exactly if their texts are.
 use Rattle.base_lists.proofs.Common.{◌≡◌, ◌∙◌, sym, ap, refl, List, [], ◌∷◌, ◌++◌, map, arith, bytes_eq, bytes_eq-Decides, same_tests, each_same_is, each_same_self}
 use Rattle.wasm_tree.specs.declared.types.RefType.TheVariants as reft
 use Rattle.wasm_tree_spec.specs.Prelude.{ValType, FuncType, same_func_type, same_type}
@@ -39,7 +39,7 @@ lists_differ (s ∷ ss) (t ∷ ts) e =
     let a = letters_differ s t head in
     let b = lists_differ ss ts tail in cc
 
--- both lists are told apart
+-- Both the parameters and the results are equal.
 record SameLists (ss ts us vs : List ValType) : Type 0 where
   params : ss ≡ ts
   results : us ≡ vs
@@ -62,7 +62,6 @@ texts_differ : (t u : FuncType) → text_of_type t ≡ text_of_type u → t ≡ 
 unfolding text_of_type
 texts_differ t u e = let s = split t.params u.params t.results u.results e in ap (λ ps. typed ps t.results) s.params ∙ ap (typed u.params) s.results
 
--- types are the same exactly where their texts are
 pub same_by_text : (t u : FuncType) → same_func_type t u ≡ bytes_eq (text_of_type t) (text_of_type u)
 same_by_text t u = same_tests (same_func_type t u) (bytes_eq (text_of_type t) (text_of_type u))
     (λ e. (bytes_eq-Decides (text_of_type t) (text_of_type u)).1 (let is : t ≡ u = grind (arith, each_same_is same_type (λ a b e. grind arith)) in ap text_of_type is))

@@ -1,5 +1,6 @@
--- Only a dropped export can leave a function undeclared that `ref.func` names in a body of the merged module: a part is valid, so what its bodies name it names outside
--- them too, and there the merged module names it as well.
+-- If no export is dropped, the merged module declares each function that `ref.func` names in a
+-- body: a part is valid, so it names the functions of its bodies outside them too, and the merged
+-- module names them there as well.
 use Rattle.base_lists.proofs.Common.{◌≡◌, ◌∙◌, refl, sym, ap, subst, ℕ, zero, suc, ◌+◌, ◌<◌, ◌≤◌, Bool, true, false, ◌&&◌, ◌||◌, not, nat_eq, nat_lt, List, [], ◌∷◌, ◌++◌, map, length, Option, Some, None, ◌⊎◌, inl, inr, ⊎_elim, arith, option_map, unwrap_or, slice_get, slice_index, filter, filter_map}
 use Rattle.base_lists.proofs.Common.{flat_map, list_all, range_with_len, length-map, slice_get-get_or, eqb-true, eq-eqb, ltb-true, left_true, right_true, list_all_each, list_all_from, list_any_there, is_kept, chosen_from, has_chosen, length-numbers, Has, map_at, map_from, append_from, has_left}
 use Rattle.base_lists.proofs.Common.{has_right, right_either}
@@ -65,7 +66,7 @@ flat_from f (z ∷ zs) y h =
     (λ b. let r = flat_from f zs y b in (r.0, (suc r.1.0, r.1.1), r.2))
     (either_has (f z) (flat_map f zs) y h)
 
--- what all have is what a part has
+-- An element of the list of all parts is one of the list of a part.
 abbrev OfPart : {A : Type 0} → (ℕ → Module → List A) → ℕ → List Part → A → Type 0
 OfPart f q ps x = (p : ℕ) × (m : Module) × (module_at ps p ≡ Some m) × Has (f (q + p) m) x
 
@@ -86,7 +87,8 @@ none_declared m (f ∷ fs) e = absurd (omega (arith, ap (λ (t : Module). length
 range_has : (n i : ℕ) → i < n → Has (range_with_len 0 n) i
 range_has n i lt = (i, slice_get-get_or (range_with_len 0 n) i 0 (omega (arith, lt, length-range_with_len 0 n)) ∙ ap Some (get_or-range_with_len 0 n i 0 lt ∙ omega arith))
 
--- what a function of the space is named by in a body, where nothing is to be declared, it is named by outside
+-- If a module has no function to be declared, a function that a body names is also named outside
+-- the bodies.
 named_outside : (m : Module) → declared m ≡ m → (f : ℕ) → f < length (funcs_of m) → is_among (body_refs m.funcs) f ≡ true → is_among (outside_refs m) f ≡ true
 named_outside m stays f lt h = by (is_among (outside_refs m) f) refl
   where
@@ -117,7 +119,7 @@ named_most (e ∷ es) [] = omega arith
 named_most (e ∷ es) (None ∷ names) = omega (arith, named_most es names)
 named_most (e ∷ es) (Some t ∷ names) = omega (arith, named_most es names)
 
--- where none is dropped, each export is there under some name
+-- If no export is dropped, each export is kept under some name.
 named_keeps : (es : List Export) (names : List (Option Text)) (e : Export) → length names ≡ length es → length names ≤ length (named_exports es names) → Has es e → (d : Export) × Has (named_exports es names) d × (d.desc ≡ e.desc)
 named_keeps [] names e many all (n, h) = cc
 named_keeps (x ∷ es) [] e many all h = absurd (omega (arith, many))
@@ -197,7 +199,8 @@ module _ (inside : PassesInside) (mapped : MappedCodePasses) (ps : List Part) (n
         (λ a. has_right (elems ++ (globals ++ exports)) offsets (new f) (offsets_named f a))
         (either_has (refs_of m) (offset_refs m.elems) f h)
 
-    -- so what a body of the part names is named outside, with its new index
+    -- A function that a body of the part names is named outside the bodies of the merged module,
+    -- with its new index.
     module _ (stays : declared m ≡ m) (fits : fits_tree (map_of ps p m) m ≡ true) (k : ℕ) (g : Func) (here : slice_get m.funcs k ≡ Some g) where
       abbrev old : ℕ → Bool
       old f = not (nat_lt f (length (funcs_of m))) || is_among (outside_refs m) f
@@ -274,15 +277,15 @@ module _ (inside : PassesInside) (mapped : MappedCodePasses) (ps : List Part) (n
     all_declared : declared Whole ≡ Whole
     all_declared = ap (with_declared Whole) undeclared_none
 
--- a valid module has no function to be declared
+-- A valid module has no function to be declared.
 abbrev pub ValidIsDeclared : Type 0
 ValidIsDeclared = (m : Module) → IsValid m → declared m ≡ m
 
--- the map of a part has an entry for each index that its valid module names
+-- The map of a part has an entry for each index that its valid module names.
 abbrev pub ValidHasEntries : Type 0
 ValidHasEntries = (ps : List Part) (p : ℕ) (m : Module) → IsValid m → fits_tree (map_of ps p m) m ≡ true
 
--- where no export is dropped, the merged module has no function to be declared
+-- If no export is dropped, the merged module has no function to be declared.
 pub none_undeclared : PassesInside → MappedCodePasses → (ps : List Part) (names : List (Option Text)) (tree : Module) → ValidIsDeclared → ValidHasEntries → PartsHold ps → tree ≡ merged ps names → length names ≡ length (all_exports ps) → length names ≤ length tree.exports → declared tree ≡ tree
 unfolding merged
 none_undeclared inside mapped ps names tree stays entries hold is many all =

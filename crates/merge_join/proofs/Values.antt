@@ -1,4 +1,4 @@
--- What replaces the imported globals of a part, one import after the other.
+-- The constant expressions that replace the imported globals of a part, import by import.
 use Rattle.base_lists.proofs.Common.{◌≡◌, ◌∙◌, ap, sym, subst, refl, ℕ, ◌+◌, ◌<◌, List, [], ◌∷◌, ◌++◌, length, take, drop, Some, None, true, false, ◌&&◌, not, nat_lt, arith, slice_get, get_or, option_and_then, append_assoc, append-nil, ◌⊎◌, inl, inr, cons_option, cases_order, nat_tests, take_more}
 use Rattle.base_lists.proofs.Common.{take-append-drop, length-append, filter_map-append, slice_get_within, append_right, append_at_left, push_last}
 use Rattle.wasm_tree_spec.specs.Prelude.{GlobalType, ValType, Import, ImportDesc, ConstExpr, Module, global_of, imported_globals}
@@ -12,7 +12,7 @@ use Rattle.merge_join.specs.Reads.{HasType}
 use Rattle.merge_join.specs.Moved.{AreValues}
 use Rattle.merge_join.proofs.Reading.{reads_global}
 
--- the imported globals, with one import more
+-- The imported globals of the first imports, extended by one import.
 imported_next : (is : List Import) (n : ℕ) (i : Import) → n < length is → i ≡ get_or is n i → imported_globals (take (n + 1) is) ≡ imported_globals (take n is) ++ cons_option (global_of i.desc) []
 imported_next is n i lt here =
     ap imported_globals (take_more is n i lt ∙ ap (λ x. take n is ++ x ∷ []) (sym here)) ∙ filter_map-append (λ i. global_of i.desc) (take n is) (i ∷ [])
@@ -39,7 +39,7 @@ module _ (is : List Import) (n : ℕ) (i : Import) (ty : GlobalType) (lt : n < l
   pub inside : length (imported_globals (take n is)) < length (imported_globals is)
   inside = slice_get_within (imported_globals is) _ ty at_place
 
-  -- where it is immutable, a constant expression may name it
+  -- A constant expression may name the global if it is immutable.
   pub may_be_named : (m : Module) → is ≡ m.imports → ty.mutable ≡ false → const_type m (const.Global (length (imported_globals (take n is)))) ≡ Some ty.ty
   may_be_named m same fixed =
       let x = length (imported_globals (take n is)) in
@@ -49,7 +49,7 @@ module _ (is : List Import) (n : ℕ) (i : Import) (ty : GlobalType) (lt : n < l
       ap (option_and_then {T = GlobalType} {U = ValType} (λ g. only (nat_lt x (length (imported_globals m.imports)) && not g.mutable) (Some g.ty))) (append_at_left (imported_globals m.imports) _ x ty found)
       ∙ ap (λ b. only (b && not ty.mutable) (Some ty.ty)) below ∙ ap (λ b. only (not b) (Some ty.ty)) fixed
 
-  -- and only then
+  -- A global that a constant expression may name is immutable.
   pub is_fixed : (ps : List Part) (p : ℕ) (m : Module) → module_at ps p ≡ Some m → is ≡ m.imports → HasType ps p (const.Global (length (imported_globals (take n is)))) → ty.mutable ≡ false
   is_fixed ps p m at same typed =
       let x = length (imported_globals (take n is)) in
@@ -66,11 +66,11 @@ no_global (im.Table t) never = refl
 no_global (im.Memory l) never = refl
 no_global (im.Global t) never = absurd (never t refl)
 
--- an import that is no global adds none
+-- An import that is no global adds no global.
 pub none_more : (is : List Import) (n : ℕ) (i : Import) → n < length is → i ≡ get_or is n i → global_of i.desc ≡ None → length (imported_globals (take (n + 1) is)) ≡ length (imported_globals (take n is))
 none_more is n i lt here none = ap length (imported_next is n i lt here ∙ ap (λ o. imported_globals (take n is) ++ cons_option o []) none ∙ append-nil (imported_globals (take n is)))
 
--- what replaces the globals before this one
+-- The list has what replaces each imported global before this one.
 abbrev pub Denotes : List Part → ℕ → ℕ → List ConstExpr → Type 0
 Denotes ps p count values = (x : ℕ) → x < count → HasType ps p (const.Global x) → slice_get values x ≡ Some (merged_const ps p (const.Global x))
 
@@ -83,7 +83,7 @@ stand_more ps p count values value long is before x lt typed = case (cases_order
     case (inr (inl l)) = append_at_left values (value ∷ []) x _ (before x l typed)
     case (inr (inr g)) = absurd (omega (arith, lt, g))
 
--- all of them
+-- The list has what replaces each imported global of the part.
 pub stand_all : (ps : List Part) (p : ℕ) (m : Module) (is : List Import) (count : ℕ) (values : List ConstExpr) → module_at ps p ≡ Some m → is ≡ m.imports → count ≡ length (imported_globals is) → Denotes ps p count values → AreValues ps p values
 stand_all ps p m is count values at same many before x typed =
     let both : Some typed.0 ≡ Some m = sym typed.2 ∙ at in
@@ -93,7 +93,7 @@ stand_all ps p m is count values at same many before x typed =
 
 -- ---- part after part ----
 
--- what replaces the imported globals of the parts before this one
+-- The lists have what replaces the imported globals of the parts before this one.
 abbrev pub DenoteEach : List Part → ℕ → List (List ConstExpr) → Type 0
 DenoteEach ps count all = (p : ℕ) → p < count → (values : List ConstExpr) × (slice_get all p ≡ Some values) × AreValues ps p values
 

@@ -37,7 +37,7 @@ count_map : {A B : Type 0} (test : B → Bool) (g : A → B) (xs : List A) → l
 count_map test g [] = refl
 count_map test g (x ∷ xs) = ap (λ n. cond (test (g x)) (suc n) n) (count_map test g xs)
 
--- a staying memory, by its end
+-- An import is a staying memory exactly if its end is outside and it is a memory.
 pub staying_here : (ps : List Part) (s : Site) (e : linking.End) → linked_at ps s ≡ Some e
     → linking.is_outside (the_site s) (Some e) && is_memory_at (linking.import_at (named_modules ps) (the_site s)) ≡ faults.is_staying_memory (named_modules ps) (the_site s)
 unfolding linked_at faults.stays

@@ -8,7 +8,7 @@ use Rattle.merge_spec.specs.Parts.{named_modules}
 use Rattle.merge_link.specs.Cutting.{cut_by, import_count, import_counts}
 use Rattle.merge_link.proofs.Numbers.{length-sites_in}
 
--- one piece more
+-- One more piece is cut off the rest of the list.
 pub one_cut : {A : Type 0} (ps : List Part) (n : ℕ) (x : Part) (k from : ℕ) (flat : List A) (lists : List (List A)) → n < length ps → x ≡ get_or ps n x → k ≡ import_count x
     → (lists ++ take k (drop from flat) ∷ []) ++ cut_by (import_counts (drop (n + 1) ps)) (drop (from + k) flat) ≡ lists ++ cut_by (import_counts (drop n ps)) (drop from flat)
 one_cut ps n x k from flat lists h is count =
@@ -22,7 +22,8 @@ cut_map f [] xs = refl
 cut_map f (n ∷ ns) xs =
     ap (λ ys. map f (take n xs) ∷ ys) (cut_map f ns (drop n xs)) ∙ ap (λ y. y ∷ cut_by ns (map f (drop n xs))) (sym (take-map f n xs)) ∙ ap (λ ys. take n (map f xs) ∷ cut_by ns ys) (sym (drop-map f n xs))
 
--- a list with an entry for each import, cut
+-- A list with an entry for each import, cut by the numbers of imports, has a list of entries for
+-- each part.
 pub cut_sites : {A : Type 0} (f : linking.Site → A) (first : ℕ) (ps : List Part) → cut_by (import_counts ps) (map f (linking.sites_from first (named_modules ps))) ≡ by_import_from f first (named_modules ps)
 cut_sites f first [] = refl
 cut_sites f first (x ∷ ps) =

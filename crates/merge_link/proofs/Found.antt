@@ -1,4 +1,4 @@
--- What is known of the places and the ends of imports, one at a time.
+-- The place and the end of a single import, from the lists of places and ends.
 use Rattle.base_lists.proofs.Common.{◌≡◌, ◌∙◌, sym, ap, ℕ, List, Option, Some, None, map, length, slice_get, slice_get-map, length-map}
 use Rattle.std.specs.Option.{option_map, IfSome}
 use Rattle.wasm_meaning.specs.Linking as linking
@@ -19,7 +19,7 @@ pub stop_at : (ps : List Part) (ends : List (Option Ending)) (i : ℕ) (o : Opti
 stop_at ps ends i None are h = tt
 stop_at ps ends i (Some e) are h = are i e h
 
--- equal images, at one place
+-- Lists with equal images have elements with equal images at each place.
 pub same_at : {A B C : Type 0} (f : A → C) (g : B → C) (xs : List A) (ys : List B) (i : ℕ) (x : A) (y : B) → map f xs ≡ map g ys → slice_get xs i ≡ Some x → slice_get ys i ≡ Some y → f x ≡ g y
 same_at f g xs ys i x y e h k =
     let a = slice_get-map f xs i ∙ ap (option_map f) h in
@@ -30,7 +30,7 @@ same_at f g xs ys i x y e h k =
 pub lengths_same : {A B C : Type 0} (f : A → C) (g : B → C) (xs : List A) (ys : List B) → map f xs ≡ map g ys → length xs ≡ length ys
 lengths_same f g xs ys e = sym (length-map xs f) ∙ ap length e ∙ length-map ys g
 
--- the fault of an import, by its end
+-- The fault of an import depends only on its end.
 pub fault_at : (ps : List Part) (sites : List Site) (ends : List (Option Ending)) (i : ℕ) (s : Site) (o : Option Ending) → map (option_map the_end) ends ≡ map (end_at ps) sites
     → slice_get sites i ≡ Some s → slice_get ends i ≡ Some o → faults.import_fault (named_modules ps) (the_site s) ≡ faults.end_fault (named_modules ps) (the_site s) (option_map the_end o)
 unfolding faults.import_fault end_at

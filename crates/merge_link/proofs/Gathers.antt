@@ -1,4 +1,4 @@
--- Memories that stay, gathered: the first of a pair is found in the map.
+-- The gathering of the memories that stay: the map has the first memory of each pair.
 use Rattle.base_lists.proofs.Common.{◌≡◌, ◌∙◌, sym, ap, refl, subst, inl, inr, ℕ, suc, ◌++◌, List, [], ◌∷◌, Option, Some, None, Bool, true, false, cond, map, length, drop, slice_get, ◌-◌, ◌&&◌, nat_cmp, ordering_then, slice_cmp, is_eq-slice_cmp, cases_eq, and_false, push_last, push_before}
 use Rattle.base_lists.proofs.Bools.{both_equal}
 use Rattle.wasm_tree_spec.specs.Prelude.{Memories, Import}
@@ -77,7 +77,7 @@ pair_tested a b c d =
 
 -- ---- one import more ----
 
--- an import that is no staying memory is none of any pair
+-- An import that is no staying memory is not the memory of any pair.
 pub passed : (ps : List Part) (pair : Pair) (s : Site) (e : linking.End) → linking.end_of (named_modules ps) (the_site s) ≡ Some e
     → linking.is_outside (the_site s) (Some e) && is_memory_at (linking.import_at (named_modules ps) (the_site s)) ≡ false → is_memory_of ps pair s ≡ false
 unfolding is_memory_of
@@ -94,7 +94,7 @@ pub taken : (ps : List Part) (pair : Pair) (s : Site) (e : linking.End) (i : Imp
 unfolding is_memory_of
 taken ps pair s e i end out at is_yes = rw (end, out, at, is_yes) refl
 
--- the look-ups after one more import, from the end on
+-- The look-ups in the map, with one more import from the end on.
 pub firsts_same : (ps : List Part) (pair : Pair) (sites : List Site) (i : ℕ) (s : Site) (o : Option Site) → drop (i - 1) sites ≡ s ∷ drop i sites → is_memory_of ps pair s ≡ false
     → o ≡ first_memory ps pair (drop i sites) → o ≡ first_memory ps pair (drop (i - 1) sites)
 firsts_same ps pair sites i s o back is_no old = old ∙ sym (ap (first_memory ps pair) back ∙ ap (λ b. cond b (Some s) (first_memory ps pair (drop i sites))) is_no)

@@ -1,4 +1,4 @@
--- What is looked up in tables is what linking by name looks up in parts.
+-- Look-ups in the tables give what linking by name looks up in the parts.
 use Rattle.base_lists.proofs.Common.{◌≡◌, ◌∙◌, sym, ap, refl, ℕ, zero, suc, ◌+◌, ◌<◌, ◌≤◌, List, [], ◌∷◌, Option, Some, None, Bool, true, false, cond, length, get_or, slice_get, arith, option_and_then, get_by, nat_cmp, slice_cmp, slice_get_read, slice_get_within}
 use Rattle.wasm_tree_spec.specs.Prelude.{Globals, Import, ExportDesc, Module, index_of_export, space_of_export}
 use Rattle.std.specs.Option.{option_map}
@@ -32,7 +32,7 @@ module_read ps p x m h is tree = module_named ps p ∙ by (slice_get ps p) (slic
     by None e = absurd (cc)
     by (Some y) e = let same : y ≡ x = cc in let t : y.«module» ≡ m = ap (λ (z : Part). z.«module») same ∙ sym tree in ap Some t
 
--- the module whose table stands at a place
+-- The module of the table at a place.
 pub record TableAt (lp : List linking.Part) (p : ℕ) (t : Table) : Type 0 where
   pub tree : Module
   pub at : linking.module_at lp p ≡ Some tree

@@ -1,4 +1,5 @@
--- Met limits, one import more at a time, from the last to the first.
+-- The met limits of the imports that share an end, computed import by import, from the last to the
+-- first.
 use Rattle.base_lists.proofs.Common.{◌≡◌, ◌≢◌, ◌⊎◌, ◌∙◌, sym, ap, refl, subst, inl, inr, ℕ, zero, suc, ◌+◌, ◌<◌, List, [], ◌∷◌, Option, Some, None, Bool, true, false, cond, map, max, length, set, replicate, slice_get, nat_eq, arith, option_and_then, cases_eq, nat_tests, length-map, length-set}
 use Rattle.base_lists.proofs.Common.{slice_get-map, slice_get_within, set_at, set_other, slice_get_there}
 use Rattle.std.specs.Option.{option_map}
@@ -66,7 +67,7 @@ pub met_none : (ps : List Part) (s : Site) → met_of ps [] s ≡ record { min =
 unfolding met_of
 met_none ps s = refl
 
--- it ends elsewhere, or asks nothing
+-- An import with another end does not change the met limits.
 same_elsewhere : (ps : List Part) (ts : List Site) (t s : Site) → linking.is_outside (the_site s) (linked_at ps t) ≡ false → met_of ps (t ∷ ts) s ≡ met_of ps ts s
 unfolding met_of linked_at
 same_elsewhere ps ts t s h = rw h refl
@@ -96,7 +97,7 @@ pub all_none : (ps : List Part) (ss : List Site) → replicate (length ss) (reco
 all_none ps [] = refl
 all_none ps (s ∷ ss) = let a = met_none ps s in let b = all_none ps ss in cc
 
--- the limits at one number change
+-- An import changes the met limits only at the number of its end.
 pub all_set : (ps : List Part) (sites ts : List Site) (t : Site) (e : linking.End) (m : ℕ) (l new : Limits) (all : List Limits) → AreSites ps sites → linked_at ps t ≡ Some e → IsDemand (named_modules ps) (the_site t) e (Some (m, l))
     → all ≡ map (met_of ps ts) sites → (old : Limits) → slice_get all m ≡ Some old → new ≡ record { min = max l.min old.min; max = linking.least l.max old.max } → set all m new ≡ map (met_of ps (t ∷ ts)) sites
 all_set ps sites ts t (linking.Defined e) m l new all are h d is old at new_is = absurd (cc)
@@ -140,7 +141,7 @@ pub demand_there : (lp : List linking.Part) (t : linking.Site) (e : linking.End)
 demand_there lp t (linking.Defined e) d h = absurd (cc)
 demand_there lp t (linking.Outside u) d h = slice_get_within (linking.sites lp) d.0 u h.0
 
--- the limits that an import keeps
+-- The limits that an import keeps are those of the specification.
 pub kept_here : (ps : List Part) (s : Site) (e : linking.End) (met : Limits) → linked_at ps s ≡ Some e → met ≡ met_at ps s → kept_of (named_modules ps) (the_site s) e met ≡ faults.kept_limits (named_modules ps) (the_site s)
 unfolding linked_at met_at faults.kept_limits faults.stays
 kept_here ps s e met h is =
@@ -153,7 +154,7 @@ kept_here ps s e met h is =
     by None = refl
     by (Some i) = refl
 
--- the fault of an import, by the limits that it keeps
+-- The fault of an import depends only on the limits that it keeps.
 pub clash_here : (ps : List Part) (s : Site) (o : Option Limits) → o ≡ faults.kept_limits (named_modules ps) (the_site s) → clash_of (the_site s) o ≡ faults.clash_fault (named_modules ps) (the_site s)
 unfolding faults.clash_fault
 clash_here ps s o is = ap (clash_of (the_site s)) is

@@ -1,4 +1,4 @@
--- Imports and defined globals are numbered through all parts.
+-- The numbers of imports and of defined globals, which run through all parts.
 use Rattle.base_lists.proofs.Common.{◌≡◌, ◌∙◌, sym, ap, refl, ℕ, zero, suc, ◌+◌, ◌-◌, ◌<◌, ◌≤◌, List, [], ◌∷◌, ◌++◌, Option, Some, length, slice_get, arith, inl, inr, ◌⊎◌, length-append, slice_get_there, append_right, append_at_left}
 use Rattle.wasm_tree_spec.specs.Prelude.{Globals, Import, GlobalDef, Module}
 use Rattle.wasm_meaning.specs.Linking as linking
@@ -19,7 +19,7 @@ site_in p zero n i h = absurd (omega arith)
 site_in p (suc count) n zero h = let e : n ≡ n + 0 = omega arith in ap (λ k. let s : linking.Site = record { part = p; import = k } in Some s) e
 site_in p (suc count) n (suc i) h = let e : suc n + i ≡ n + suc i = omega arith in site_in p count (suc n) i (omega arith) ∙ ap (λ k. let s : linking.Site = record { part = p; import = k } in Some s) e
 
--- the numbers of the next part's first import and first defined global
+-- The numbers of the first import and of the first defined global of the next part.
 pub imports_more : (lp : List linking.Part) (p : ℕ) (m : Module) → linking.module_at lp p ≡ Some m → imports_before lp (suc p) ≡ imports_before lp p + length m.imports
 imports_more [] p m h = cc
 imports_more (x ∷ []) zero m h = let e : x.«module» ≡ m = cc in omega (arith, ap (λ (y : Module). length y.imports) e)
@@ -40,7 +40,7 @@ pub globals_none : (lp : List linking.Part) → defined_before Globals lp 0 ≡ 
 globals_none [] = refl
 globals_none (x ∷ lp) = refl
 
--- they are no more than there are
+-- The number of imports of the first parts is at most that of all parts.
 pub imports_most : (lp : List linking.Part) (first p : ℕ) (m : Module) → linking.module_at lp p ≡ Some m → imports_before lp p + length m.imports ≤ length (linking.sites_from first lp)
 imports_most [] first p m h = cc
 imports_most (x ∷ lp) first zero m h =
@@ -59,7 +59,7 @@ globals_most (x ∷ lp) first (suc p) m h =
     let l = length-append (defined_globals_in first (length (linking.imports_of Globals x.«module»)) x.«module».globals) (defined_globals_from (suc first) lp) in
     omega (arith, globals_most lp (suc first) p m h, l, length-own_in first (length (linking.imports_of Globals x.«module»)) x.«module».globals)
 
--- one more place
+-- The list of imports of a part from one place on begins with the import at that place.
 pub sites_in_more : (p n i : ℕ) → i < n → linking.sites_in p (n - i) i ≡ record { part = p; import = i } ∷ linking.sites_in p (n - (i + 1)) (i + 1)
 sites_in_more p n i h =
     let e : n - i ≡ suc (n - (i + 1)) = omega arith in
@@ -69,7 +69,7 @@ sites_in_more p n i h =
 site_same : (p q i j : ℕ) → p ≡ q → i ≡ j → ◌≡◌ {A = Option linking.Site} (Some (record { part = p; import = i })) (Some (record { part = q; import = j }))
 site_same p q i j e f = cc
 
--- the import with a number
+-- The import with a number is at this place of this part.
 pub site_at : (lp : List linking.Part) (first p i : ℕ) (m : Module) → linking.module_at lp p ≡ Some m → i < length m.imports
     → slice_get (linking.sites_from first lp) (imports_before lp p + i) ≡ Some (record { part = first + p; import = i })
 site_at [] first p i m h l = cc
@@ -89,7 +89,7 @@ site_at (x ∷ lp) first (suc p) i m h l =
     ∙ site_at lp (suc first) p i m h l
     ∙ ap (λ r. let s : linking.Site = record { part = r; import = i } in Some s) q
 
--- where the import with a number stands
+-- The part and the place of the import with a number.
 pub record SiteOf (lp : List linking.Part) (first n : ℕ) (s : linking.Site) : Type 0 where
   pub place : ℕ
   pub tree : Module
@@ -124,7 +124,7 @@ site_of (x ∷ lp) first n s h = elim (split (linking.sites_in first (length x.�
       record { place = suc r.place; tree = r.tree; at = r.at; part = omega (arith, r.part); within = r.within; number = omega (arith, r.number, k.0, length-sites_in first (length x.«module».imports) 0) }
 ]
 
--- an import stands at each place
+-- Each place in the list of all imports has an import.
 pub site_there : (lp : List linking.Part) (n : ℕ) (s : linking.Site) → slice_get (linking.sites lp) n ≡ Some s → (i : Import) × (linking.import_at lp s ≡ Some i)
 site_there lp n s h =
     let r = site_of lp 0 n s h in

@@ -35,7 +35,7 @@ same_text_back (x ∷ xs) (y ∷ ys) = by (nat_eq x y) refl (same_text_back xs y
     by true e rest = let b : nat_eq y x ≡ true = grind (arith, nat_tests) in rw (e, b) rest
     by false e rest = let b : nat_eq y x ≡ false = grind (arith, nat_tests) in rw (e, b) refl
 
--- the number of those of a kind before the next place
+-- The number of imports of a kind before a place, and before the next one.
 pub space_zero : (imports : List Import) (k : Space) → linking.space_index imports 0 k ≡ 0
 space_zero [] k = refl
 space_zero (i ∷ is) k = refl
@@ -67,18 +67,18 @@ pub space_same : (imports : List Import) (n : ℕ) (k : Space) (i : Import) → 
 unfolding one_if
 space_same imports n k i h is e = let s : n + 1 ≡ suc n = omega arith in ap (λ m. linking.space_index imports m k) s ∙ space_suc imports n k i h is ∙ ap (λ b. linking.space_index imports n k + one_if b) e ∙ omega arith
 
--- one more entry of a list whose entries are said by their places
+-- A list whose entries are determined by their places grows by one entry.
 pub grown : {A : Type 0} (xs : List A) (y : A) (i : ℕ) (f : ℕ → A) → length xs ≡ i → ((n : ℕ) → n < i → slice_get xs n ≡ Some (f n)) → y ≡ f i → (n : ℕ) → n < i + 1 → slice_get (xs ++ y ∷ []) n ≡ Some (f n)
 grown xs y i f size all here n h = elim (cases_eq n i) [
   | inl e ↦ ap (slice_get (xs ++ y ∷ [])) (e ∙ sym size) ∙ push_last xs y ∙ ap Some (here ∙ ap f (sym e))
   | inr ne ↦ got_left xs y n (f n) (all n (omega arith))
 ]
 
--- what a name denotes, one export further from the end
+-- The export of a name is the first export if that has the name, and else it is among the others.
 pub exported_step : (e : Export) (es : List Export) (name : List ℕ) → linking.export_named (e ∷ es) name ≡ cond (bytes_eq e.name name) (Some e.desc) (linking.export_named es name)
 exported_step e es name = ap (λ b. cond b (Some e.desc) (linking.export_named es name)) (same_text_is e.name name)
 
--- the part of a name, one part further from the end
+-- The part of a name is the first part if that has the name, and else it is among the others.
 pub named_step : (x : Part) (ps : List Part) (n : ℕ) (name : List ℕ)
     → linking.first_place (linking.is_named name) (named_modules (x ∷ ps)) n ≡ cond (bytes_eq x.name name) (Some n) (linking.first_place (linking.is_named name) (named_modules ps) (suc n))
 named_step x ps n name = ap (λ b. cond b (Some n) (linking.first_place (linking.is_named name) (named_modules ps) (suc n))) (same_text_back name x.name ∙ same_text_is x.name name)
@@ -86,7 +86,7 @@ named_step x ps n name = ap (λ b. cond b (Some n) (linking.first_place (linking
 pub nothing_at : {A : Type 0} (xs : List A) (n : ℕ) (x : A) → xs ≡ [] → slice_get xs n ≡ Some x → ⊥
 nothing_at xs n x e h = let k = ap (λ ys. slice_get ys n) e in absurd (cc)
 
--- no import adds to these
+-- No import adds to the index spaces of types, element segments and data segments.
 no_import_in : (d : ImportDesc) → (same_space Types (space_of_import d) ≡ false) × (same_space ElementSegments (space_of_import d) ≡ false) × (same_space DataSegments (space_of_import d) ≡ false)
 no_import_in (im.Func t) = (refl, refl, refl)
 no_import_in (im.Table t) = (refl, refl, refl)
@@ -99,7 +99,7 @@ no_places k none (i ∷ imports) n =
     let rest = linking.places (linking.has_kind k) imports (suc n) in
     no_places k none imports (suc n) ∙ ap (λ b. cond b (n ∷ rest) rest) (sym (none i.desc))
 
--- the places of a module's imports, by index space
+-- A table with the places of the imports of four index spaces has the places of all.
 pub all_places : (m : Module) (t : Table) → t.funcs.items ≡ linking.imports_of Functions m → t.tables.items ≡ linking.imports_of Tables m → t.memories.items ≡ linking.imports_of Memories m → t.globals.items ≡ linking.imports_of Globals m → HasPlaces m t
 all_places m t funcs tables memories globals Functions = funcs
 all_places m t funcs tables memories globals Tables = tables

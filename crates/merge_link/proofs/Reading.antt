@@ -55,7 +55,7 @@ own_from (x ∷ lp) first (suc p) i m g h l =
           ∙ ap (λ r. let s : faults.DefinedGlobal = record { part = r; index = rest.0; init = g.init } in Some s) q,
     )
 
--- the place of a global among those that its part defines
+-- The place of a global among the globals that its part defines.
 abbrev pub own_place : Table → linking.Entity → ℕ
 own_place t e = index_of_export e.what - length (places_of t Globals)
 
@@ -107,7 +107,7 @@ step_to ps e n (g, at, part, init) = (
   ap (λ o. option_and_then (λ x. let r : linking.Read = record { part = e.part; expr = x } in Some (paths.LeadsTo r)) o) init ∙ ap (λ p. let r : linking.Read = record { part = p; expr = g.init } in Some (paths.LeadsTo r)) (sym part),
 )
 
--- the end of an import that has a number
+-- The end of the import with a number is the end at that number.
 pub end_numbered : (ps : List Part) (sites : List Site) (ends : List Ending) (n : ℕ) (s : linking.Site) (e : Ending) → AreSites ps sites → AreKnown ps sites ends → slice_get (linking.sites (named_modules ps)) n ≡ Some s → slice_get ends n ≡ Some e
     → linking.end_of (named_modules ps) s ≡ Some (the_end e)
 end_numbered ps sites ends n s e are known h k =
@@ -116,7 +116,7 @@ end_numbered ps sites ends n s e are known h k =
     let same : the_site x.0 ≡ s = let a : slice_get (linking.sites (named_modules ps)) n ≡ Some (the_site x.0) = ap (λ xs. slice_get xs n) (sym are) ∙ slice_get-map the_site sites n ∙ ap (option_map the_site) x.1 in cc in
     ap (linking.end_of (named_modules ps)) (sym same) ∙ known_at ps sites ends n x.0 e known x.1 k
 
--- from an expression that reads an import
+-- The step from an expression that reads an imported global depends on the end of the import.
 pub step_read : (ps : List Part) (p x : ℕ) (s : linking.Site) (e : linking.End) (step : Step Read) → linking.global_import (named_modules ps) p x ≡ Some s → linking.end_of (named_modules ps) s ≡ Some e → IsEndStep ps e step
     → IsStep (linking.read_step (named_modules ps)) (own_reads (named_modules ps)) the_read (record { part = p; expr = const.Global x }) step
 step_read ps p x s e step at end is = by step is
@@ -131,7 +131,7 @@ step_read ps p x s e step at end is = by step is
 
 -- ---- faults ----
 
--- the fault of a global, by what its value reads
+-- The fault of a global depends only on what its value reads.
 pub global_here : (ps : List Part) (globals : List DefinedGlobal) (values : List (Option Read)) (i : ℕ) (g : DefinedGlobal) (o : Option Read) → map (option_map the_read) values ≡ map (value_at ps) globals
     → slice_get globals i ≡ Some g → slice_get values i ≡ Some o → faults.global_fault (named_modules ps) (the_own g) ≡ faults.value_fault (the_own g) (option_map the_read o)
 unfolding faults.global_fault value_at

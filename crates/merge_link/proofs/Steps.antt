@@ -1,4 +1,4 @@
--- From steps between numbers to paths between what is numbered.
+-- Steps between numbers, and the paths between the points that have these numbers.
 use Rattle.base_lists.proofs.Common.{◌≡◌, ◌∙◌, sym, ap, refl, subst, ℕ, zero, suc, ◌<◌, List, [], ◌∷◌, Option, Some, None, length, map, slice_get, arith, ◌↔◌, ◌++◌, inl, inr, cases_eq, slice_get_within, slice_get-map, length-map, push_last, push_before, slice_get_there}
 use Rattle.std.specs.Option.{option_map}
 use Rattle.wasm_meaning.specs.Paths as paths
@@ -18,7 +18,7 @@ lists_same (x ∷ xs) (y ∷ ys) h all =
     let rest : xs ≡ ys = lists_same xs ys (omega arith) (λ n k. all (suc n) (omega arith)) in
     cc
 
--- the step of a number that has a point
+-- Each number of a point has a step.
 step_at : {A E F : Type 0} (next : A → Option (paths.PathStep A E)) (points : List A) (meaning : F → E) (steps : List (Step F)) → AreSteps next points meaning points steps
     → (n : ℕ) (a : A) → slice_get points n ≡ Some a → (s : Step F) × (slice_get steps n ≡ Some s) × IsStep next points meaning a s
 step_at next points meaning steps are n a h =
@@ -51,7 +51,7 @@ from_path {F = F} next points meaning steps are n a e h (goes {b = b} k l) =
     by (Stops f) at is more = absurd (cc)
     by Nowhere at is more = absurd (cc)
 
--- what a point leads to, by a rule that tells the ends of paths
+-- The ending of a point is the one that a function for the ends of paths gives.
 pub ending_told : {A E F : Type 0} (next : A → Option (paths.PathStep A E)) (points : List A) (meaning : F → E) (steps : List (Step F)) (all : List (Option F))
     → AreSteps next points meaning points steps → AreEndings steps all
     → (tell : A → Option E) → ((a : A) (e : E) → paths.Path next a e ↔ (tell a ≡ Some e))
@@ -64,7 +64,7 @@ ending_told {E = E} next points meaning steps all are endings tell law n a None 
     by None is = refl
     by (Some e) is = let f = from_path next points meaning steps are n a e h ((law a e).1 is) in absurd (endings.right n None k f.0 f.1)
 
--- the same for all points
+-- The endings of all points are those that the function gives.
 pub endings_told : {A E F : Type 0} (next : A → Option (paths.PathStep A E)) (points : List A) (meaning : F → E) (steps : List (Step F)) (all : List (Option F))
     → AreSteps next points meaning points steps → AreEndings steps all
     → (tell : A → Option E) → ((a : A) (e : E) → paths.Path next a e ↔ (tell a ≡ Some e))
@@ -79,7 +79,7 @@ endings_told next points meaning steps all are endings tell law =
     ∙ ap Some (ending_told next points meaning steps all are endings tell law n a.0 o.0 a.1 o.1)
     ∙ sym (slice_get-map tell points n ∙ ap (option_map tell) a.1))
 
--- each number that is named is there
+-- Each number that a step leads to is the number of a point.
 pub steps_named : {A E F : Type 0} (next : A → Option (paths.PathStep A E)) (points : List A) (meaning : F → E) (steps : List (Step F)) → AreSteps next points meaning points steps → AreNamed steps
 steps_named next points meaning steps are n m h =
     let a = slice_get_there points n (let k = slice_get_within steps n (Leads m) h in omega (arith, are.one_each)) in
@@ -87,7 +87,7 @@ steps_named next points meaning steps are n m h =
     let k = slice_get_within points m is.0 is.1 in
     omega (arith, are.one_each)
 
--- one more step
+-- The list of steps stays right when one more step is appended.
 pub steps_more : {A E F : Type 0} (next : A → Option (paths.PathStep A E)) (points : List A) (meaning : F → E) (froms : List A) (steps : List (Step F)) (i : ℕ) (a : A) (s : Step F) → length steps ≡ i
     → slice_get froms i ≡ Some a → IsStep next points meaning a s
     → ((n : ℕ) (b : A) (t : Step F) → slice_get froms n ≡ Some b → slice_get steps n ≡ Some t → IsStep next points meaning b t)
@@ -100,17 +100,17 @@ steps_more {A = A} next points meaning froms steps i a s size at is all n b t h 
   | inr ne ↦ all n b t h (push_before steps s n t ne k)
 ]
 
--- what a path ends with, some point ends with at once
+-- A path ends with something that some point ends with in one step.
 pub last_step : {A E : Type 0} (next : A → Option (paths.PathStep A E)) (a : A) (e : E) → paths.Path next a e → (b : A) × (next b ≡ Some (paths.EndsWith e))
 last_step next a e (ends {a = b} k) = (b, k)
 last_step next a e (goes {b = b} k l) = last_step next b e l
 
--- no steps yet
+-- The empty list of steps is right.
 pub no_steps : {A E F : Type 0} (next : A → Option (paths.PathStep A E)) (points : List A) (meaning : F → E) (froms : List A) (steps : List (Step F)) → steps ≡ []
     → (n : ℕ) (a : A) (s : Step F) → slice_get froms n ≡ Some a → slice_get steps n ≡ Some s → IsStep next points meaning a s
 no_steps next points meaning froms steps e n a s h k = let l = ap (λ ys. slice_get ys n) e in absurd (cc)
 
--- what is told as an ending, some point ends with at once
+-- An ending is something that some point ends with in one step.
 pub ending_stops : {A E F : Type 0} (next : A → Option (paths.PathStep A E)) (points : List A) (meaning : F → E) (steps : List (Step F)) (all : List (Option F))
     → AreSteps next points meaning points steps → AreEndings steps all
     → (n : ℕ) (f : F) → slice_get all n ≡ Some (Some f) → (b : A) × (next b ≡ Some (paths.EndsWith (meaning f)))

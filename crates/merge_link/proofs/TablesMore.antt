@@ -1,4 +1,4 @@
--- One more table.
+-- The tables of the parts, extended by one table.
 use Rattle.base_lists.proofs.Common.{◌≡◌, ◌∙◌, sym, ap, subst, inl, inr, ℕ, List, [], ◌∷◌, ◌++◌, Some, length, slice_get, cases_eq, push_last, push_before}
 use Rattle.wasm_tree_spec.specs.Prelude.{Globals, Module}
 use Rattle.wasm_meaning.specs.Linking as linking

@@ -1,4 +1,4 @@
--- What is read through imports, by the ends of paths.
+-- Reads through imports, by the ends of paths.
 use Rattle.base_lists.proofs.Common.{◌≡◌, ◌∙◌, sym, ap, refl, subst, ℕ, zero, suc, ◌+◌, ◌<◌, List, [], ◌∷◌, Option, Some, None, Bool, true, false, cond, length, slice_get, arith, ◌↔◌, option_and_then, slice_get_within}
 use Rattle.wasm_tree_spec.specs.Prelude.{Space, Globals, same_space, ConstExpr, Import, ImportDesc, Module, space_of_import}
 use Rattle.std.specs.Option.{option_map}
@@ -17,7 +17,7 @@ use Rattle.merge_link.specs.Reads.{fixed_desc, fixed_read, own_value, read_past}
 use Rattle.merge_link.proofs.Found.{lengths_same, same_at}
 use Rattle.merge_link.proofs.Meets.{part_there}
 
--- the value of a defined global that has a number
+-- The value of the defined global with a number is the value at that number.
 pub value_numbered : (ps : List Part) (values : List (Option Read)) (e : linking.Entity) (n : ℕ) (o : Option Read) → AreGlobalReads ps values → IsOwn (named_modules ps) e (Some n) → slice_get values n ≡ Some o
     → option_map the_read o ≡ read_past (named_modules ps) (linking.Defined e)
 unfolding own_value

@@ -1,4 +1,4 @@
--- External types of what modules define, and lists of types compared.
+-- External types of the entities that modules define, and the comparison of lists of types.
 use Rattle.base_lists.proofs.Common.{◌≡◌, ◌∙◌, sym, ap, refl, ℕ, zero, suc, ◌-◌, ◌≤◌, List, [], ◌∷◌, ◌++◌, Option, Some, None, Bool, true, false, cond, ◌&&◌, map, length, slice_get, arith, cons_option, slice_get-map, slice_get_none}
 use Rattle.wasm_tree_spec.specs.Prelude.{Functions, Tables, Memories, Globals, same_space, ValType, Import, ImportDesc, Func, GlobalDef, Module, func_of, table_of, memory_of, global_of, imported_funcs, imported_tables, imported_memories, imported_globals, funcs_of, index_of_export, space_of_export}
 use Rattle.wasm_tree_spec.specs.Prelude.{space_of_import}
@@ -49,7 +49,7 @@ behind [] ys i n e h = let k : i ≡ i - n = omega arith in ap (slice_get ys) k
 behind (x ∷ xs) ys zero n e h = absurd (omega arith)
 behind (x ∷ xs) ys (suc i) n e h = let k : i - (n - 1) ≡ suc i - n = omega arith in behind xs ys i (n - 1) (omega arith) (omega arith) ∙ ap (slice_get ys) k
 
--- how many imports there are of a kind
+-- The number of imports of a kind is the number of their places.
 count_funcs : (is : List Import) (n : ℕ) → length (imported_funcs is) ≡ length (linking.places (linking.has_kind Functions) is n)
 count_funcs [] n = refl
 count_funcs (i ∷ is) n = by i.desc (count_funcs is (suc n))
@@ -94,7 +94,7 @@ count_globals (i ∷ is) n = by i.desc (count_globals is (suc n))
     by (im.Memory t) e = e
     by (im.Global t) e = ap suc e
 
--- an entry that is defined
+-- The external type of an entry that the module defines.
 pub external_func : (m : Module) (i n : ℕ) → n ≡ length (linking.imports_of Functions m) → n ≤ i → faults.external_of m (ex.Func i) ≡ own_func m (i - n)
 external_func m i n e h =
     then_map (option_and_then (slice_get m.types) (slice_get (funcs_of m) i)) faults.FuncOf
@@ -118,7 +118,7 @@ external_global m i n e h =
     by None = refl
     by (Some g) = refl
 
--- what is no import has an index behind those of the imports
+-- An entity that is no import has an index behind those of the imports.
 pub not_imported : (lp : List linking.Part) (e : linking.Entity) (m : Module) → linking.module_at lp e.part ≡ Some m → linking.imported_as lp e ≡ None
     → length (linking.imports_of (space_of_export e.what) m) ≤ index_of_export e.what
 not_imported lp e m at none = slice_get_none (linking.imports_of (space_of_export e.what) m) (index_of_export e.what) (by (slice_get (linking.imports_of (space_of_export e.what) m) (index_of_export e.what)) (rw at at none))

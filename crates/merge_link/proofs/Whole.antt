@@ -39,7 +39,7 @@ pub global_faults_are : (ps : List Part) (globals : List DefinedGlobal) → AreO
 unfolding global_faults
 global_faults_are ps globals are = sym (first_map (faults.global_fault (named_modules ps)) the_own globals) ∙ ap (first_fault (faults.global_fault (named_modules ps))) are
 
--- no import's path goes on for ever
+-- No path of an import is infinite.
 pub all_end : (ps : List Part) (sites : List Site) (ends : List (Option Ending)) → map (option_map the_end) ends ≡ map (end_at ps) sites
     → first_fault (λ s. faults.import_fault (named_modules ps) (the_site s)) sites ≡ None → (n : ℕ) → slice_get ends n ≡ Some None → ⊥
 all_end ps sites ends same none n h =
@@ -103,7 +103,7 @@ pub fault_four : (lp : List linking.Part) (o : Option LinkFault) → import_faul
 unfolding faults.link_fault import_faults clash_faults faults.memory_fault global_faults
 fault_four lp o a b c d = rw (a, b, c) d
 
--- what a stage refuses is the first fault of all
+-- A refusal of one stage is a refusal of linking.
 pub refused : (first : Option LinkFault) (lp : List linking.Part) (f : LinkFault) → (first ≡ Some f → faults.link_fault lp false ≡ Some f) → IsRefusal first f → IsRefusal (faults.link_fault lp false) f
 refused first lp f of_all (inl none) = inl none
 refused first lp f of_all (inr is) = inr (of_all is)

@@ -1,11 +1,11 @@
--- What is among names.
+-- Membership of a name in a list of names.
 use Rattle.base_lists.proofs.Common.{◌≡◌, ◌∙◌, sym, ap, refl, ℕ, zero, suc, ◌+◌, List, [], ◌∷◌, ◌++◌, take, slice_get, Some, Bool, true, false, cond, ◌||◌, ◌&&◌, Contains, bytes_eq, bytes_eq-Decides, take_more, list_any-append, slice_get-get_or, slice_get_within, get_or_from_slice_get}
 use Rattle.merge_names.specs.Names.{among}
 
 pub same_from : (x y : List ℕ) → bytes_eq x y ≡ true → x ≡ y
 same_from x y e = (bytes_eq-Decides x y).0 e
 
--- the tests of one more name
+-- A name is among names and one more if it is among them or is that one.
 pub among_push : (ns : List (List ℕ)) (x q : List ℕ) → among (ns ++ x ∷ []) q ≡ cond (bytes_eq x q) true (among ns q)
 among_push [] x q = elim (bytes_eq x q) as (λ b. b || false ≡ cond b true false) [ true ↦ refl | false ↦ refl ]
 among_push (n ∷ ns) x q = ap (λ (b : Bool). bytes_eq n q || b) (among_push ns x q) ∙ swap (bytes_eq n q) (bytes_eq x q) (among ns q)
@@ -33,7 +33,7 @@ among_self (n ∷ ns) (suc i) x h = case (bytes_eq n x) (among_self ns i x h)
 pub among_more : (ns ms : List (List ℕ)) (q : List ℕ) → among ns q ≡ true → among (ns ++ ms) q ≡ true
 among_more ns ms q h = among_join ns ms q ∙ ap (λ (b : Bool). b || among ms q) h
 
--- what is not among some names and others is among neither
+-- A name that is not among two joined lists is in neither of them.
 pub among_neither : (ns ms : List (List ℕ)) (q : List ℕ) → among (ns ++ ms) q ≡ false → (among ns q ≡ false) × (among ms q ≡ false)
 among_neither ns ms q h = case (among ns q) (among ms q) (sym (among_join ns ms q) ∙ h)
   where
@@ -47,7 +47,7 @@ among_next names i name q h =
     let more : take (i + 1) names ≡ take i names ++ name ∷ [] = take_more names i name (slice_get_within names i name h) ∙ ap (λ (x : List ℕ). take i names ++ x ∷ []) (get_or_from_slice_get names i name name h) in
     ap (λ (ns : List (List ℕ)). among ns q) more ∙ among_push (take i names) name q
 
--- a name that is not among others does not stand in their list
+-- A list does not contain a name that is not among its names.
 pub not_contained : (ns : List (List ℕ)) (q : List ℕ) → among ns q ≡ false → Contains ns q → ⊥
 not_contained ns q h (k, within, is) =
     let at : slice_get ns k ≡ Some q = slice_get-get_or ns k q within ∙ ap Some is in

@@ -1,4 +1,4 @@
--- What holds of names that were chosen.
+-- The properties of the new names that the contracts state.
 use Rattle.base_lists.proofs.Common.{◌≡◌, ◌∙◌, sym, ap, refl, subst, ℕ, ◌<◌, ◌≤◌, ◌^◌, List, [], ◌∷◌, length, arith, Option, Some, None, Ok, Err, Result, IsOk, IfOk, IfErr, length-map}
 use Rattle.merge_names.specs.declared.mode.Mode.{Mode}
 use Rattle.merge_names.specs.declared.mode.Mode.TheVariants.{Refuse, Rename, Skip}

@@ -1,4 +1,4 @@
--- How far a loop that renames has come.
+-- The state of the loop that renames, and its iterations.
 use Rattle.base_lists.proofs.Common.{◌≡◌, ◌∙◌, sym, ap, refl, subst, ℕ, ◌<◌, ◌≤◌, ◌+◌, ◌^◌, List, [], ◌∷◌, ◌++◌, length, arith, slice_get, take, Option, Some, Bool, true, false, cond, is_some, append_assoc, bytes_eq, bytes_eq-Decides, take_more, slice_get_within, get_or_from_slice_get}
 use Rattle.merge_names.specs.Names.{numbered, IsLeastFree, IsRenamed, among, new_name, renamed}
 use Rattle.merge_names.specs.Chosen.{IsChosen}
@@ -6,7 +6,8 @@ use Rattle.merge_names.specs.Chosen.IsChosen.{first, again}
 use Rattle.merge_names.proofs.Among.{among_push, among_self, among_more, among_next}
 use Rattle.merge_names.proofs.Renamed.{new_name_is, one_name, renamed_at, few_enough}
 
--- what is taken, and of each name that came a number below which none is free
+-- The names that are taken are the old ones and the new ones so far, and each earlier name has a
+-- number below which none is free.
 pub record HasCome (names : List (List ℕ)) (i : ℕ) (news : List (List ℕ)) (taken : List ℕ → Bool) (memo : List ℕ → Option ℕ) : Type 0 where
   pub taken_is : (q : List ℕ) → taken q ≡ among (names ++ news) q
   pub came : (q : List ℕ) → is_some (memo q) ≡ among (take i names) q
@@ -16,7 +17,7 @@ some_of : (b : Bool) (k : ℕ) (o : Option ℕ) → is_some (cond b (Some k) o) 
 some_of true k o = refl
 some_of false k o = refl
 
--- a name that did not come before keeps itself
+-- A name that does not repeat an earlier one is kept.
 come_first : (names : List (List ℕ)) (i : ℕ) (news : List (List ℕ)) (taken : List ℕ → Bool) (memo after : List ℕ → Option ℕ) (name : List ℕ)
     → HasCome names i news taken memo → slice_get names i ≡ Some name → ((q : List ℕ) → after q ≡ cond (bytes_eq name q) (Some 1) (memo q))
     → HasCome names (i + 1) (news ++ name ∷ []) taken after
@@ -39,7 +40,7 @@ come_first names i news taken memo after name c at updates = record {
     tried_more true q k h = let one : 1 ≡ k = cc in (omega arith, λ j a b. absurd (omega arith))
     tried_more false q k h = c.tried q k h
 
--- one that did takes the least free number
+-- A name that repeats an earlier one gets the least free number.
 come_again : (names : List (List ℕ)) (i : ℕ) (news : List (List ℕ)) (taken taken_after : List ℕ → Bool) (memo after : List ℕ → Option ℕ) (name new : List ℕ) (k : ℕ)
     → HasCome names i news taken memo → slice_get names i ≡ Some name → IsLeastFree taken name k
     → ((q : List ℕ) → after q ≡ cond (bytes_eq name q) (Some k) (memo q)) → ((q : List ℕ) → taken_after q ≡ cond (bytes_eq new q) true (taken q))
@@ -63,7 +64,7 @@ come_again names i news taken taken_after memo after name new k c at least updat
         (subst (λ (x : ℕ). 1 ≤ x) is least.from_one, λ j a b. still (numbered q j) (ap (λ (x : List ℕ). taken (numbered x j)) (sym (same refl)) ∙ least.least j a (omega arith)))
     tried_more false q n same h = let t = c.tried q n h in (t.0, λ j a b. still (numbered q j) (t.1 j a b))
 
--- one more name
+-- An iteration of the loop chooses one new name.
 pub come_on : (names : List (List ℕ)) (i : ℕ) (news : List (List ℕ)) (taken taken_after : List ℕ → Bool) (memo after : List ℕ → Option ℕ) (name new : List ℕ)
     → HasCome names i news taken memo → slice_get names i ≡ Some name → IsChosen name taken taken_after memo after new
     → HasCome names (i + 1) (news ++ new ∷ []) taken_after after
@@ -77,7 +78,7 @@ come_on names i news taken taken_after memo after name new c at (first none is s
 come_on names i news taken taken_after memo after name new c at (again from k some least is updates takes) =
     come_again names i news taken taken_after memo after name new k c at least updates takes
 
--- what was chosen follows the rule
+-- The chosen name follows the rule.
 follows : (names : List (List ℕ)) (i : ℕ) (news : List (List ℕ)) (taken taken_after : List ℕ → Bool) (memo after : List ℕ → Option ℕ) (name new : List ℕ)
     → HasCome names i news taken memo → IsChosen name taken taken_after memo after new → IsRenamed names (take i names) news name new
 follows names i news taken taken_after memo after name new c (first none is same updates) = record {
@@ -97,7 +98,7 @@ follows names i news taken taken_after memo after name new c (again from k some 
   );
 }
 
--- the names that were chosen are the first of the new names
+-- The names that are chosen so far are the first of the new names.
 pub next_is : (names : List (List ℕ)) (i : ℕ) (taken taken_after : List ℕ → Bool) (memo after : List ℕ → Option ℕ) (name new : List ℕ) → length names < 2 ^ 62
     → HasCome names i (take i (renamed names)) taken memo → slice_get names i ≡ Some name → IsChosen name taken taken_after memo after new
     → take (i + 1) (renamed names) ≡ take i (renamed names) ++ new ∷ []

@@ -1,4 +1,4 @@
--- The names that are given differ.
+-- The new names are distinct.
 use Rattle.base_lists.proofs.Common.{◌≡◌, ◌∙◌, sym, ap, refl, inl, inr, ℕ, zero, suc, ◌<◌, ◌+◌, ◌^◌, List, [], ◌∷◌, ◌++◌, length, map, arith, slice_get, take, Some, None, Bool, true, false, cond, append_assoc, append-nil, subst, ◌||◌, bytes_eq, cases_Bool, length-append, length_push}
 use Rattle.merge_names.specs.declared.mode.Mode.TheVariants.{Refuse, Rename, Skip}
 use Rattle.merge_names.specs.Names.{among, numbered, given, new_name, kept_behind, conflict_behind, renamed_behind, renamed, AreDistinct, IsRenamed}
@@ -6,7 +6,7 @@ use Rattle.merge_names.specs.Laws.{GivenNamesDiffer}
 use Rattle.merge_names.proofs.Among.{among_push, among_join, among_neither, among_self, not_contained, same_from}
 use Rattle.merge_names.proofs.Renamed.{new_name_is, renamed_length}
 
--- none of these names is among those before it, where others stand before the first
+-- None of these names repeats an earlier one, with `old` before the first.
 abbrev Fresh : List (List ℕ) → List (List ℕ) → Type 0
 Fresh old [] = Unit {0}
 Fresh old (n ∷ ns) = (among old n ≡ false) × Fresh (old ++ n ∷ []) ns
@@ -26,7 +26,7 @@ given_all : (ns : List (List ℕ)) → given (map Some ns) ≡ ns
 given_all [] = refl
 given_all (n ∷ ns) = ap (λ (x : List (List ℕ)). n ∷ x) (given_all ns)
 
--- where none came before
+-- Names without a conflict repeat no earlier name.
 fresh_all : (old ns : List (List ℕ)) → conflict_behind old ns ≡ None → Fresh old ns
 unfolding conflict_behind
 fresh_all old [] h = tt
@@ -36,14 +36,14 @@ fresh_all old (n ∷ ns) h = step (among old n) refl h (λ e. fresh_all (old ++ 
     step true is e rest = cc
     step false is e rest = (is, rest e)
 
--- the same names are among both
+-- The two lists have the same names.
 abbrev SameAmong : List (List ℕ) → List (List ℕ) → Type 0
 SameAmong xs ys = (q : List ℕ) → among xs q ≡ among ys q
 
 same_push : (xs ys : List (List ℕ)) (n : List ℕ) → SameAmong xs ys → SameAmong (xs ++ n ∷ []) (ys ++ n ∷ [])
 same_push xs ys n same q = among_push xs n q ∙ ap (cond (bytes_eq n q) true) (same q) ∙ sym (among_push ys n q)
 
--- a name that is among others adds none
+-- Adding a name that a list has already leaves the names of the list.
 known_push : (xs : List (List ℕ)) (n : List ℕ) → among xs n ≡ true → SameAmong (xs ++ n ∷ []) xs
 known_push xs n known q = among_push xs n q ∙ case (bytes_eq n q) (λ e. ap (among xs) (sym (same_from n q e)) ∙ known)
   where
@@ -51,7 +51,7 @@ known_push xs n known q = among_push xs n q ∙ case (bytes_eq n q) (λ e. ap (a
     case true f = sym (f refl)
     case false f = refl
 
--- the first of each
+-- Names of which only the first of each is kept repeat no earlier name.
 fresh_kept : (old known ns : List (List ℕ)) → SameAmong known old → Fresh known (given (kept_behind old ns))
 unfolding kept_behind
 fresh_kept old known [] same = tt
@@ -64,11 +64,11 @@ fresh_kept old known (n ∷ ns) same = step (among old n) refl
     step true is dropped kept = dropped is
     step false is dropped kept = (same n ∙ is, kept)
 
--- of all names, those that were chosen are those that came
+-- A name of `all` is among the chosen names exactly if it is among the earlier ones.
 abbrev ChosenCame : (all old chosen : List (List ℕ)) → Type 0
 ChosenCame all old chosen = (q : List ℕ) → among all q ≡ true → among chosen q ≡ among old q
 
--- one name that follows the rule
+-- The property is kept when a name and its new name by the rule are added.
 chosen_new : (all old chosen : List (List ℕ)) (name new : List ℕ) → among all name ≡ true → IsRenamed all old chosen name new → ChosenCame all old chosen → among chosen new ≡ false
 chosen_new all old chosen name new here rule came = elim (cases_Bool (among old name)) [
   | inl held ↦ let (k, least, is) = rule.again held in ap (among chosen) is ∙ (among_neither all chosen (numbered name k) least.free).1

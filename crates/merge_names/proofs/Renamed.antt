@@ -3,7 +3,7 @@ use Rattle.base_lists.proofs.Common.{◌≡◌, ◌∙◌, sym, ap, refl, subst,
 use Rattle.merge_names.specs.Names.{numbered, IsLeastFree, IsRenamed, AreRenamed, among, least_free, new_name, renamed_behind, renamed}
 use Rattle.merge_names.proofs.Few.{few_among}
 
--- there is one least number
+-- The least free number is unique.
 pub one_least : (taken : List ℕ → Bool) (name : List ℕ) (a b : ℕ) → IsLeastFree taken name a → IsLeastFree taken name b → a ≡ b
 one_least taken name a b x y = elim (cases_order a b) [
   | inl e ↦ e
@@ -13,7 +13,8 @@ one_least taken name a b x y = elim (cases_order a b) [
   ]
 ]
 
--- what the search from j on finds
+-- The result `r` of the search from `j` on: the numbers before it are taken, and `r` is free unless
+-- the tries are used up.
 record IsFound (tries : ℕ) (taken : List ℕ → Bool) (name : List ℕ) (j r : ℕ) : Type 0 where
   from : j ≤ r
   most : r ≤ j + tries
@@ -40,7 +41,7 @@ finds (suc tries) taken name j = step (taken (numbered name j)) refl (finds trie
         }
     step false is more = record { from = omega arith; most = omega arith; before = λ i a b. absurd (omega arith); free = λ h. is }
 
--- as many tries as there are names are enough
+-- The search needs at most as many tries as there are names.
 pub least_found : (xs : List (List ℕ)) (name : List ℕ) → length xs + 2 < 2 ^ 64 → IsLeastFree (among xs) name (least_free (length xs) (among xs) name 1)
 least_found xs name few =
     let f = finds (length xs) (among xs) name 1 in
@@ -65,7 +66,7 @@ least_found xs name few =
       least = f.before;
     }
 
--- the new name follows the rule
+-- The new name that the function gives follows the rule.
 pub new_name_is : (all old chosen : List (List ℕ)) (name : List ℕ) → length (all ++ chosen) + 2 < 2 ^ 64 → IsRenamed all old chosen name (new_name all old chosen name)
 unfolding new_name
 new_name_is all old chosen name few = record {
@@ -73,7 +74,7 @@ new_name_is all old chosen name few = record {
   again = λ h. (least_free (length (all ++ chosen)) (among (all ++ chosen)) name 1, least_found (all ++ chosen) name few, rw h refl);
 }
 
--- the rule leaves one name
+-- At most one name follows the rule.
 pub one_name : (all old chosen : List (List ℕ)) (name a b : List ℕ) → IsRenamed all old chosen name a → IsRenamed all old chosen name b → a ≡ b
 one_name all old chosen name a b x y = elim (cases_Bool (among old name)) [
   | inr missing ↦ x.first missing ∙ sym (y.first missing)
@@ -102,7 +103,7 @@ renamed_there all old chosen (n ∷ ns) (suc i) name h =
     ∙ ap (λ (x : List (List ℕ)). Some (new_name all x ((chosen ++ new ∷ []) ++ take i rest) name)) (append_assoc old (n ∷ []) (take i ns))
     ∙ ap (λ (x : List (List ℕ)). Some (new_name all (old ++ n ∷ take i ns) x name)) (append_assoc chosen (new ∷ []) (take i rest))
 
--- the new name of one among all
+-- The new name at a position is that by the names before the position.
 pub renamed_at : (names : List (List ℕ)) (i : ℕ) (name : List ℕ) → slice_get names i ≡ Some name →
     slice_get (renamed names) i ≡ Some (new_name names (take i names) (take i (renamed names)) name)
 renamed_at names = renamed_there names [] [] names
@@ -112,7 +113,7 @@ length-take-le zero xs = omega arith
 length-take-le (suc i) [] = omega arith
 length-take-le (suc i) (x ∷ xs) = omega (arith, length-take-le i xs)
 
--- the names that they were given, and as many of the new ones, are few enough
+-- The old names and the new ones so far are together few enough for the numbers of the code.
 pub few_enough : (names : List (List ℕ)) (i : ℕ) → length names < 2 ^ 62 → length (names ++ take i (renamed names)) + 2 < 2 ^ 64
 few_enough names i few = omega (arith, length-append names (take i (renamed names)), length-take-le i (renamed names), renamed_length names [] [] names)
 

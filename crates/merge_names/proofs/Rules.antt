@@ -1,4 +1,4 @@
--- The new names follow the rules, and a conflict is the first.
+-- The new names follow the rules, and the conflict is the first one.
 use Rattle.base_lists.proofs.Common.{◌≡◌, ◌∙◌, sym, ap, refl, ℕ, zero, suc, ◌<◌, ◌+◌, List, [], ◌∷◌, ◌++◌, length, arith, slice_get, take, Some, None, Bool, true, false, cond, append_assoc, append-nil, length_push}
 use Rattle.merge_names.specs.declared.mode.Mode.TheVariants.{Refuse, Rename, Skip}
 use Rattle.merge_names.specs.Names.{among, kept_behind, conflict_behind, renamed, AreKept}
@@ -31,7 +31,7 @@ follow_rules Refuse names few = refl
 follow_rules Rename names few = (renamed names, refl, renamed_are names few)
 follow_rules Skip names few = kept_are names
 
--- where the first comes
+-- The position of the first name that repeats an earlier one, with `old` before the first.
 record IsFirstBehind (old ns : List (List ℕ)) (place : ℕ) : Type 0 where
   at : (i : ℕ) × (name : List ℕ) × (place ≡ length old + i) × (slice_get ns i ≡ Some name) × (among (old ++ take i ns) name ≡ true)
   least : (j : ℕ) (name : List ℕ) → length old + j < place → slice_get ns j ≡ Some name → among (old ++ take j ns) name ≡ false

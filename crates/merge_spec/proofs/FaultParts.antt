@@ -1,4 +1,5 @@
--- The parts that faults of linking name are there, no fault of linking is one of memory, and without a fault there is none either where several memories may be.
+-- A fault of linking names a part that exists and is never one of memory. If there is no fault,
+-- there is none either where several memories are allowed.
 use Rattle.base_lists.proofs.Common.{◌≡◌, subst, ℕ, zero, suc, ◌+◌, ◌<◌, ◌≤◌, List, [], ◌∷◌, length, Option, Some, None, IfSome, Bool, true, false, cond, nat_lt, arith}
 use Rattle.base_lists.proofs.Every.{every_append}
 use Rattle.base_lists.specs.Options.{◌>>=◌}
@@ -11,7 +12,7 @@ use Rattle.merge_spec.specs.Faults.{import_fault, clash_fault, memory_fault, Def
 use Rattle.merge_spec.specs.declared.faults.LinkFault.{LinkFault}
 use Rattle.merge_spec.specs.declared.faults.LinkFault.TheVariants.{ImportMismatch, ImportCycle, LimitsClash, TooManyMemories, GlobalCycle, NoMemory}
 
--- a fault of linking these many parts
+-- A fault of linking `n` parts names a part that exists and is not one of memory.
 abbrev IsOf : ℕ → LinkFault → Type 0
 IsOf n NoMemory = ⊥
 IsOf n (ImportMismatch part import) = part < n

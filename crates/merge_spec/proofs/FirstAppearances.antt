@@ -33,7 +33,7 @@ single u t (suc k) h = absurd (cc)
 
 -- ---- one more type ----
 
--- one that is there already
+-- A type that is in the list already adds nothing.
 keeps : (all types : List FuncType) (u : FuncType) → AreFirstAppearances all types → Has types u → AreFirstAppearances (all ++ u ∷ []) types
 keeps all types u f there = record {
   apart = f.apart;
@@ -56,7 +56,7 @@ keeps all types u f there = record {
         let low = w.1 in
         (w.0, omega (arith, last, low, slice_get_within all o.0 v o.1), append_at_left all (u ∷ []) w.0 t w.2)
 
--- one that is new
+-- A new type is appended.
 adds : (all types : List FuncType) (u : FuncType) → AreFirstAppearances all types → list_any (same_func_type u) types ≡ false → AreFirstAppearances (all ++ u ∷ []) (types ++ u ∷ [])
 adds all types u f new = record {
   apart = λ i j t a b. apart i j t (append_from types (u ∷ []) i t a) (append_from types (u ∷ []) j t b);
@@ -65,7 +65,7 @@ adds all types u f new = record {
   in_order = λ i j t v less a b n h. ordered i j t v less (append_from types (u ∷ []) i t a) (append_from types (u ∷ []) j v b) n (append_from all (u ∷ []) n v h);
 }
   where
-    -- a place in a list with u behind it
+    -- The element at a place of a list that is followed by `u`.
     Put : List FuncType → ℕ → FuncType → Type 0
     Put xs n t = (slice_get xs n ≡ Some t) ⊎ ((k : ℕ) × (n ≡ length xs + k) × (slice_get (u ∷ []) k ≡ Some t))
 

@@ -59,7 +59,7 @@ func ty body = record { ty = ty; locals = []; body = body }
 
 -- ---- faults ----
 
--- each imports the other's import
+-- Two parts each import what the other imports from the first.
 abbrev turning : List Part
 turning =
     part a (record empty { types = gives ∷ []; imports = import b x (im.Func 0) ∷ []; exports = export x (ex.Func 0) ∷ [] }) ∷
@@ -69,7 +69,7 @@ imports_without_an_end : link_fault turning false ≡ Some (ImportCycle 0 0)
 unfolding link_fault import_fault
 imports_without_an_end = refl
 
--- two parts that import one memory
+-- Two parts import one memory, with these limits each.
 abbrev remembering : Limits → Limits → List Part
 remembering l k = part a (record empty { imports = import env x (im.Memory l) ∷ [] }) ∷ part b (record empty { imports = import env x (im.Memory k) ∷ [] }) ∷ []
 
@@ -96,12 +96,12 @@ two_memories_where_several_may_be : link_fault each_with_a_memory true ≡ None
 unfolding link_fault import_fault clash_fault kept_limits stays memory_fault memory_count global_fault defined_globals
 two_memories_where_several_may_be = refl
 
--- a part that imports a function of another type than is there
+-- A part imports a function at another type than that of the definition.
 another_type : link_fault (part a (record empty { types = gives ∷ []; funcs = func 0 (i.I32Const (pos 7) ∷ []) ∷ []; exports = export f (ex.Func 0) ∷ [] }) ∷ part b (record empty { types = takes ∷ []; imports = import a f (im.Func 0) ∷ [] }) ∷ []) false ≡ Some (ImportMismatch 1 0)
 unfolding link_fault import_fault
 another_type = refl
 
--- a global whose value is read from itself
+-- An immutable global type, for globals whose values are read from themselves.
 abbrev fixed : ValType → GlobalType
 fixed t = record { ty = t; mutable = false }
 
@@ -137,7 +137,8 @@ one_type : (merged calling (Some f ∷ Some g ∷ [])).types ≡ gives ∷ []
 unfolding merged merged_types
 one_type = refl
 
--- types of two parts, some of which are equal: each once, where it appears first
+-- The types of two parts, some of which are equal, are merged so that each appears once, where it
+-- appears first.
 abbrev with_types_of : Text → List FuncType → Part
 with_types_of name types = part name (record empty { types = types })
 
@@ -145,7 +146,7 @@ three_types : (merged (with_types_of a (gives ∷ takes ∷ []) ∷ with_types_o
 unfolding merged merged_types
 three_types = refl
 
--- another order is refused, and a type that stands twice
+-- Types in another order, or with one that appears twice, are not the first appearances.
 another_order : AreFirstAppearances (gives ∷ takes ∷ []) (takes ∷ gives ∷ []) → ⊥
 another_order h = let w = h.in_order 0 1 takes gives (omega arith) refl refl 0 refl in let low = w.1 in omega (arith, low)
 

@@ -76,7 +76,7 @@ map_covers parts p m =
     let d = ap length (data_entries parts p m) ∙ length-numbers (defined_before DataSegments parts p) (length m.datas) in
     record { types = omega (arith, ty); funcs = omega (arith, f); tables = omega (arith, t); memories = omega (arith, n); globals = omega (arith, g); elems = omega (arith, e); datas = omega (arith, d) }
 
--- ---- types, by the words of validity ----
+-- ---- types of entries, as the definition of validity states them ----
 
 pub func_to : (m : Module) (i : ℕ) (ft : FuncType) → type_of_func m i ≡ Some ft → type_at m Functions i ≡ Some (FuncTy ft)
 func_to m i ft h = by (slice_get (funcs_of m) i) h
@@ -176,7 +176,7 @@ data_stands parts names p m i s is h =
     ∙ by_part_at (λ p m. map (merged_data parts p (map_of parts p m)) m.datas) DataSegments (λ p m. length-map m.datas (merged_data parts p (map_of parts p m))) 0 parts p m i (merged_data parts p (map_of parts p m) s) is
     (ap (λ q. slice_get (map (merged_data parts q (map_of parts q m)) m.datas) i) part_0 ∙ map_at (merged_data parts p (map_of parts p m)) m.datas i s h)
 
--- ---- the whole ----
+-- ---- agreement ----
 
 module _ (law : EndsArePaths) (parts : List Part) (names : List (Option Text)) (links : AllAreSuited parts) (p : ℕ) (m : Module) (is : module_at parts p ≡ Some m) (holds : ItemsHold m) where
   kept : (k : Space) (i : ℕ) (y : Ty) → type_at m k i ≡ Some y → type_at (merged parts names) k (slice_index (entries k (map_of parts p m)) i) ≡ Some y

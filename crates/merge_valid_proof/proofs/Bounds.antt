@@ -46,7 +46,8 @@ merged_single parts names h =
 
 -- ---- limits ----
 
--- a tree with its references declared has no fewer segments, and all else as it was
+-- Declaring references adds at most a segment, so limits on the counts of a module with its
+-- references declared hold of the module too.
 undeclared_within : (m : Module) (fs : List ℕ) → CountsAreWithin (with_declared m fs) → CountsAreWithin m
 undeclared_within m [] w = w
 undeclared_within m (f ∷ fs) w =

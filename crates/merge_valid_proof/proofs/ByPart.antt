@@ -1,4 +1,5 @@
--- Lists that are joined by part: an entry of a part's list has its place in all of them, and each entry comes from a part.
+-- Lists that are joined by part: an entry of a part's list has its place in the joined list, and
+-- each entry of the joined list comes from a part.
 use Rattle.base_lists.proofs.Common.{◌≡◌, ◌∙◌, ap, ap₂, sym, subst, refl, ℕ, zero, suc, ◌+◌, List, [], ◌∷◌, ◌++◌, map, length, Some, arith, ◌⊎◌, inl, inr, slice_get, flat_map, length-append, map-append, append_at_left, append_right, append_from, has_left, has_right, Has}
 use Rattle.wasm_tree_spec.specs.Prelude.{Space, Module}
 use Rattle.wasm_meaning.specs.Prelude.{defined_count, defined_before, Part, module_at}
@@ -30,7 +31,7 @@ by_part_has f first (part ∷ parts) (suc q) m x h g =
     let n : first + suc q ≡ suc first + q = omega arith in
     has_right (f first part.«module») (by_part_from f (suc first) parts) x (by_part_has f (suc first) parts q m x h (subst (λ p. Has (f p m) x) n g))
 
--- an entry comes from a part
+-- The part from which an entry of a joined list comes, and its place in that part's list.
 pub record From {A : Type 0} (f : ℕ → Module → List A) (first : ℕ) (parts : List Part) (x : A) : Type 0 where
   pub part : ℕ
   pub «module» : Module
@@ -63,7 +64,8 @@ pub by_part_same : {A : Type 0} (f g : ℕ → Module → List A) → ((p : ℕ)
 by_part_same f g e first [] = refl
 by_part_same f g e first (part ∷ parts) = ap₂ (λ a b. a ++ b) (e first part.«module») (by_part_same f g e (suc first) parts)
 
--- a list that begins with what the first part has, and goes on with those behind it, is joined by part
+-- A list that consists of the list of the first part, followed by those of the later parts, is
+-- joined by part.
 pub by_part_is : {A : Type 0} (g : ℕ → List Part → List A) (f : ℕ → Module → List A) → ((first : ℕ) → g first [] ≡ []) → ((first : ℕ) (part : Part) (parts : List Part) → g first (part ∷ parts) ≡ f first part.«module» ++ g (suc first) parts) → (first : ℕ) (parts : List Part) →
     g first parts ≡ by_part_from f first parts
 by_part_is g f none next first [] = none first

@@ -1,4 +1,5 @@
--- A constant expression of a part keeps its type where it becomes what it reads through joined globals.
+-- A constant expression of a part keeps its type when it becomes the expression that it reads
+-- through joined globals.
 use Rattle.base_lists.proofs.Common.{◌≡◌, ◌∙◌, ap, ap₂, sym, subst, refl, ℕ, zero, suc, ◌+◌, ◌-◌, ◌<◌, ◌≤◌, List, [], ◌∷◌, length, Option, Some, Bool, true, false, cond, ◌&&◌, not, nat_lt, arith, IsTrue, option_and_then, unwrap_or, slice_get, slice_index, ltb-true, lt-ltb, is_some_there}
 use Rattle.base_lists.proofs.Common.{and_then_is, slice_get_within, slice_get_there, map_from, append_at_left, place_of, places_many, left_true, right_true, only_true, only_rest}
 use Rattle.wasm_tree_spec.specs.Prelude.{Space, Functions, Globals, ValType, Ref, GlobalType, Import, ConstExpr, GlobalDef, Module, funcs_of, globals_of, imported_globals, index_of_export}
@@ -26,7 +27,7 @@ use Rattle.merge_valid_proof.proofs.Agree.{entry_at, entries_many, trees_agree}
 
 -- ---- constant expressions of one module ----
 
--- an imported immutable global
+-- The imported immutable global that a constant expression of a valid module reads.
 record ReadsGlobal (m : Module) (x : ℕ) (ty : ValType) : Type 0 where
   global : GlobalType
   at : slice_get (globals_of m) x ≡ Some global
@@ -82,17 +83,19 @@ index_place k (x ∷ xs) (suc n) from i h e = by (has_kind k x) (index_place k x
     by true on = on ∙ ap Some (let z : suc from + n ≡ from + suc n = omega arith in z)
     by false on = on ∙ ap Some (let z : suc from + n ≡ from + suc n = omega arith in z)
 
--- ---- what is read in the end ----
+-- ---- the expression at which a read ends ----
 
 module _ (ends_law : EndsArePaths) (parts : List Part) (names : List (Option Text)) (links : AllAreSuited parts) where
-  -- what is read has the type, and where it is a global that is an import of the merged module
+  -- An expression at which a read ends: it has this type, and a global in it is an import of the
+  -- merged module.
   pub record Ended (r : Read) (ty : ValType) : Type 0 where
     pub of : Module
     pub is_part : module_at parts r.part ≡ Some of
     pub typed : const_type of r.expr ≡ Some ty
     pub reads : ReadsImport (map_of parts r.part of) (merged parts names) r.expr
 
-  -- one step from an expression of the type: it is what is read, or it goes on to the value of a defined global
+  -- One step of a read from an expression of this type: the read ends, or it continues with the
+  -- initialiser of a global that a part defines.
   data Step (r : Read) (ty : ValType) : Type 0 where
     stop : (q : Read) → read_step parts r ≡ Some (EndsWith q) → Ended q ty → Step r ty
     on : (e : Entity) (of : Module) (j : ℕ) (g : GlobalDef) → read_step parts r ≡ Some (LeadsTo (record { part = e.part; expr = g.init })) → module_at parts e.part ≡ Some of → slice_get of.globals j ≡ Some g → g.ty.ty ≡ ty → Step r ty
@@ -100,7 +103,7 @@ module _ (ends_law : EndsArePaths) (parts : List Part) (names : List (Option Tex
   global_type : (g h : GlobalType) → Some (GlobalTy g) ≡ Some (GlobalTy h) → g ≡ h
   global_type g h e = cc
 
-  -- through an import that stays
+  -- A global import that stays ends the read.
   stays_read : (r : Read) (s : Site) (g : GlobalType) → not g.mutable ≡ true → read_step parts r ≡ end_step parts (end_of parts s) → EndsOutside parts s (GlobalTy g) → Step r g.ty
   stays_read r s g fixed step w =
       let k = Globals in
@@ -133,7 +136,7 @@ module _ (ends_law : EndsArePaths) (parts : List Part) (names : List (Option Tex
       stop q (step ∙ ap (end_step parts) w.end ∙ ap (λ t. option_and_then (λ r. Some (EndsWith r)) (outside_read parts t)) (sym to) ∙ ap (λ o. option_and_then {T = Read} {U = PathStep Read Read} (λ r. Some (EndsWith r)) o) out)
       (record { of = m.0; is_part = m.1; typed = global_typed m.0 x g at_x lt fixed; reads = imports })
 
-  -- to the value of a global that is joined
+  -- A joined global import leads the read to the initialiser of the global that a part defines.
   joins_read : (r : Read) (s : Site) (g : GlobalType) → read_step parts r ≡ end_step parts (end_of parts s) → EndsInside parts s (GlobalTy g) → Step r g.ty
   joins_read r s g step w =
       let k = Globals in
@@ -172,7 +175,7 @@ module _ (ends_law : EndsArePaths) (parts : List Part) (names : List (Option Tex
   step_of p (const.Global x) m ty is h = global_step p x m ty is (reads_global m x ty h)
 
   module _ (reads_law : ReadsArePaths) (valid : (p : ℕ) (m : Module) → module_at parts p ≡ Some m → ItemsHold m) where
-    -- the value of a global that a part defines has the global's type
+    -- The initialiser of a global that a part defines has the type of the global.
     init_typed : (m : Module) → ItemsHold m → (j : ℕ) (g : GlobalDef) → slice_get m.globals j ≡ Some g → const_type m g.init ≡ Some g.ty.ty
     init_typed m holds j g at =
         let z = holds kind.Global j (slice_get_within m.globals j g at) in
@@ -180,7 +183,7 @@ module _ (ends_law : EndsArePaths) (parts : List Part) (names : List (Option Tex
         let same : z.0 ≡ g = cc in
         subst (λ (g : GlobalDef). const_type m g.init ≡ Some g.ty.ty) same z.2
 
-    -- a path keeps the type
+    -- The steps of a read keep the type of the expression.
     ended : (r q : Read) → Path (read_step parts) r q → (m : Module) (ty : ValType) → module_at parts r.part ≡ Some m → const_type m r.expr ≡ Some ty → Ended q ty
     ended r q (ends h) m ty is t = by (step_of r.part r.expr m ty is t)
       where
@@ -198,13 +201,13 @@ module _ (ends_law : EndsArePaths) (parts : List Part) (names : List (Option Tex
             let same : record { part = e.part; expr = g.init } ≡ b = cc in
             more of (ap (λ b. module_at parts b.part) (sym same) ∙ is) (ap (λ b. const_type of b.expr) (sym same) ∙ init_typed of (valid e.part of is) j g at ∙ ap Some y)
 
-    -- what is read has an entry in the map of its part
+    -- The global in an expression at which a read ends has an entry in the map of its part.
     pub read_fits : (p : ℕ) (e : ConstExpr) (m : Module) (ty : ValType) (r : Read) → module_at parts p ≡ Some m → const_type m e ≡ Some ty → read_of parts p e ≡ Some r → HasEntry parts r
     read_fits p e m ty r is t reads =
         let z = ended (record { part = p; expr = e }) r ((reads_law parts p e r).1 reads) m ty is t in
         record { of = z.of; is_part = z.is_part; fits = map_fits parts r.part z.of r.expr ty z.typed }
 
-    -- what is read is there
+    -- Each constant expression with a type reads something.
     pub read_there : (p : ℕ) (e : ConstExpr) (m : Module) (ty : ValType) → module_at parts p ≡ Some m → const_type m e ≡ Some ty → (r : Read) × (read_of parts p e ≡ Some r)
     read_there p e m ty is t = by (step_of p e m ty is t)
       where
@@ -215,7 +218,7 @@ module _ (ends_law : EndsArePaths) (parts : List Part) (names : List (Option Tex
             (r.0, (reads_law parts p e r.0).0 (goes k ((reads_law parts d.part g.init r.0).1 r.1)))
 
     module _ (constants : (m : Remap) (kept : Indices) (t u : Module) (e : ConstExpr) → TreesAgree m kept t u → ConstNamesOnly kept e → ReadsImport m u e → ConstComesFrom t u e (new_const m e)) where
-      -- a constant expression becomes one of its type
+      -- The merged constant expression has the type of the part's constant expression.
       pub const_stands : (p : ℕ) (m : Module) (e : ConstExpr) → module_at parts p ≡ Some m → ConstComesFrom m (merged parts names) e (merged_const parts p e)
       unfolding merged_const
       const_stands p m e is ty t =

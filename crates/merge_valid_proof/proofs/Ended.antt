@@ -1,4 +1,5 @@
--- Where imports of linked parts end, with all that is asked and found there; and which sites are imports.
+-- The ends of the imports of linked parts, with the external type that an import asks for and the
+-- one that its end has; and which sites are imports.
 use Rattle.base_lists.proofs.Common.{◌≡◌, ◌∙◌, ap, ap₂, sym, subst, refl, ℕ, zero, suc, ◌+◌, ◌<◌, List, length, Some, Bool, true, false, arith, option_and_then, ◌&&◌, slice_get, length-append, length-map, slice_get_within, slice_get_there, slice_get_none, and_then_is, and_parts, and_from}
 use Rattle.base_lists.proofs.Common.{each_same_self}
 use Rattle.wasm_tree_spec.specs.Prelude.{Space, Functions, Tables, Memories, Globals, Types, ElementSegments, DataSegments, GlobalType, Import, ImportDesc, Module, index_of_export, space_of_import}
@@ -17,7 +18,7 @@ use Rattle.merge_valid_proof.proofs.Linked.{Suited, AllAreSuited, are_linked, si
 use Rattle.merge_valid_proof.proofs.Ends.{Gathers, gathers, end_outside, kind_asked, gathered_type, lands_inside, outside_is}
 use Rattle.merge_valid_proof.proofs.Entries.{imports_many, inside_own, stays_is, staying_place, has_its_kind, index_imported, index_defined, end_defined}
 
--- ---- what is the same but for limits ----
+-- ---- external types that are the same but for limits ----
 
 bool_same : (b : Bool) → same_bool b b ≡ true
 bool_same true = refl
@@ -94,7 +95,7 @@ memory_thing owned parts u j at e =
     ∙ ap (λ o. option_and_then (λ i. option_and_then (λ key. owned_at owned key) (own_key m.0 i)) o) at
     ∙ ap (λ o. option_and_then (λ key. owned_at owned key) o) (memory_key m.0 (pair_of j) j.desc e)
 
--- what is gathered is one of the environment's own
+-- An import and the one to which it is gathered denote the same entity of the environment.
 gathered_thing : (owned : Owned) (parts : List Part) (t : Site) (i : Import) → import_at parts t ≡ Some i → (g : Gathers parts t i) (b : Bool) → has_kind Memories i ≡ b → outside_external_value owned parts t ≡ outside_external_value owned parts g.to
 gathered_thing owned parts t i at g true e =
     memory_thing owned parts t i at (sym (kind_is Memories (space_of_import i.desc) e)) ∙ ap (λ p. owned_at owned (MemoryKey p)) g.pair

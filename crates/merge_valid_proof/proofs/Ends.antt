@@ -1,4 +1,5 @@
--- Where an import of linked parts ends: with an entity of a part that defines it, or with an import that stays, of the type that is asked for.
+-- The end of an import of linked parts: an entity of a part that defines it, or an import that
+-- stays, each of the type that the import asks for.
 use Rattle.base_lists.proofs.Common.{◌≡◌, ◌∙◌, ap, ap₂, sym, subst, refl, ℕ, zero, suc, List, [], ◌∷◌, Option, Some, None, Bool, true, false, cond, option_and_then, ◌&&◌, slice_get, and_false, and_then_is, and_parts, and_from}
 use Rattle.wasm_tree_spec.specs.Prelude.{Memories, Import, Module, space_of_import}
 use Rattle.wasm_meaning.specs.Prelude.{PathStep, EndsWith, Path, ends, goes, EndsArePaths, Part, Site, End, Defined, Outside, Entity, module_at, import_at, imported_as, joined, entity_step, joined_step, import_step, sites, end_of, is_outside, same_pair, pair_of, has_kind, gathered, linked_end}
@@ -14,7 +15,8 @@ last : {A E : Type 0} {next : A → Option (PathStep A E)} {a : A} {e : E} → P
 last {a = a} (ends h) = (a, h)
 last (goes h p) = last p
 
--- where a step ends: the import itself stays, or an entity is no import
+-- The end of a path's last step: the import itself, if it is joined with nothing, or an entity that
+-- is no import.
 record Stops (parts : List Part) (s : Site) (e : End) : Type 0 where
   outside : (t : Site) → e ≡ Outside t → s ≡ t
   defined : (d : Entity) → e ≡ Defined d → imported_as parts d ≡ None
@@ -39,11 +41,11 @@ stops parts s e h = by (import_at parts s) refl h
     by None at k = absurd (let z = k in cc)
     by (Some i) at k = at_joined i at (joined parts i) k
 
--- an entity with which an import ends is no import
+-- The entity with which an import ends is defined by its part: it is no import.
 pub end_defined : EndsArePaths → (parts : List Part) (s : Site) (d : Entity) → end_of parts s ≡ Some (Defined d) → imported_as parts d ≡ None
 end_defined law parts s d h = let l = last ((law parts s (Defined d)).1 h) in (stops parts l.0 (Defined d) l.1).defined d refl
 
--- an import with which an import ends is its own end
+-- The import with which an import ends is its own end.
 pub end_outside : EndsArePaths → (parts : List Part) (s t : Site) → end_of parts s ≡ Some (Outside t) → (i : Import) × (import_at parts t ≡ Some i) × (end_of parts t ≡ Some (Outside t))
 end_outside law parts s t h =
     let l = last ((law parts s (Outside t)).1 h) in
@@ -88,7 +90,8 @@ none_same i e (Some j) = ap (λ b. b && (has_kind Memories j && same_pair (pair_
 none_as : (parts : List Part) (i : Import) → has_kind Memories i ≡ false → (s : Site) → stays_as parts i s ≡ false
 none_as parts i e s = ap (λ b. is_outside s (end_of parts s) && b) (none_same i e (import_at parts s)) ∙ and_false (is_outside s (end_of parts s))
 
--- the memories of one module and field name are the same ones
+-- Two memory imports with the same module and field name are the same memory as the same other
+-- imports.
 same_alike : (i j : Import) → has_kind Memories i ≡ true → has_kind Memories j ≡ true → pair_of i ≡ pair_of j → (o : Option Import) → same_memory j o ≡ same_memory i o
 same_alike i j a b e None = refl
 same_alike i j a b e (Some k) =
@@ -97,7 +100,7 @@ same_alike i j a b e (Some k) =
 as_alike : (parts : List Part) (i j : Import) → has_kind Memories i ≡ true → has_kind Memories j ≡ true → pair_of i ≡ pair_of j → (s : Site) → stays_as parts j s ≡ stays_as parts i s
 as_alike parts i j a b e s = ap (λ c. is_outside s (end_of parts s) && c) (same_alike i j a b e (import_at parts s))
 
--- an import at which others end: it is its own end, also where memories are gathered
+-- An import at which other imports end: it is its own end, also after memories are gathered.
 pub record Stays (parts : List Part) (u : Site) : Type 0 where
   pub import : Import
   pub at : import_at parts u ≡ Some import
@@ -116,7 +119,8 @@ memory_is i (Some j) h =
     let b = and_parts (has_kind Memories j) (same_pair (pair_of i) (pair_of j)) a.1 in
     (j, refl, b.0, pair_is (pair_of i) (pair_of j) b.1)
 
--- where one ends, the one stays to which memories are gathered, and it is the same or a memory as it is
+-- The import to which the end of an import is gathered: it stays, and it is that end itself or
+-- another memory import with the same names.
 pub record Gathers (parts : List Part) (t : Site) (i : Import) : Type 0 where
   pub to : Site
   pub is : gathered parts (Outside t) ≡ Outside to
@@ -166,7 +170,7 @@ gathers parts t i at own = by (has_kind Memories i) refl
 
 -- ---- where imports of linked parts end ----
 
--- an entity that its part defines
+-- An import that ends with an entity that a part defines, of this type.
 pub record EndsInside (parts : List Part) (s : Site) (y : Ty) : Type 0 where
   pub entity : Entity
   pub end : end_of parts s ≡ Some (Defined entity)
@@ -178,7 +182,7 @@ pub record EndsInside (parts : List Part) (s : Site) (y : Ty) : Type 0 where
   pub is : external_of of entity.what ≡ Some thing
   pub typed : bare thing ≡ y
 
--- an import that stays
+-- An import that ends with an import that stays, of this type.
 pub record EndsOutside (parts : List Part) (s : Site) (y : Ty) : Type 0 where
   pub first : Site
   pub end : end_of parts s ≡ Some (Outside first)
@@ -188,7 +192,7 @@ pub record EndsOutside (parts : List Part) (s : Site) (y : Ty) : Type 0 where
   pub thing : External
   pub asks : asked_at parts to ≡ Some thing
   pub typed : bare thing ≡ y
-  -- only memories are gathered
+  -- Only memory imports are gathered.
   pub same : (kind_of y ≡ Memories → ⊥) → to ≡ first
 
 pub data Landed (parts : List Part) (s : Site) (y : Ty) : Type 0 where
@@ -224,7 +228,8 @@ lands_inside law parts s w d e =
       typed = sym w.same;
     }
 
--- where an import is a memory or not, the one to which it is gathered has its type
+-- The import to which an import is gathered has the type of that import, whether it is a memory or
+-- not.
 pub gathered_type : (parts : List Part) (t : Site) (i : Import) (g : Gathers parts t i) (x z : External) → import_at parts t ≡ Some i → asked_at parts t ≡ Some x → asked_at parts g.to ≡ Some z → (b : Bool) → has_kind Memories i ≡ b → bare z ≡ bare x
 gathered_type parts t i g x z at h k true e =
     let a : kind_of (bare x) ≡ Memories = kind_asked parts t i x at h ∙ sym (kind_is Memories (space_of_import i.desc) e) in

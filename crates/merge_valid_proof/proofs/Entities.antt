@@ -1,4 +1,6 @@
--- The index spaces of entities at once: what an entry of one is, and its type, with the limits of tables and memories left aside. Types and segments are no entities.
+-- The index spaces of functions, tables, memories and globals, treated alike: their entries and the
+-- types of these, without the limits of tables and memories. Types and segments have no entries
+-- here.
 use Rattle.base_lists.proofs.Common.{◌≡◌, ◌∙◌, ap, ap₂, sym, refl, ℕ, List, ◌++◌, map, length, Option, Some, None, true, is_some, [], slice_get, option_and_then, filter_map, length-map, and_then_is, and_parts, each_same_is, arith}
 use Rattle.wasm_tree_spec.specs.Prelude.{Space, Types, Functions, Tables, Memories, Globals, ElementSegments, DataSegments, RefType, FuncType, Limits, TableType, GlobalType, Import, ImportDesc, ExportDesc, Module, func_of, table_of, memory_of, global_of, funcs_of, tables_of, memories_of, globals_of}
 use Rattle.wasm_tree_spec.specs.Prelude.{type_of_func, index_of_export, space_of_export, space_of_import, same_type}
@@ -20,7 +22,7 @@ Entry Types = ⊥
 Entry ElementSegments = ⊥
 Entry DataSegments = ⊥
 
--- what an import adds to the space of a kind
+-- The entry that an import adds to an index space, if it is of that kind.
 abbrev pub of_desc : (k : Space) → ImportDesc → Option (Entry k)
 of_desc Functions d = func_of d
 of_desc Tables d = table_of d
@@ -33,7 +35,7 @@ of_desc DataSegments d = None
 abbrev pub of_import : (k : Space) → Import → Option (Entry k)
 of_import k i = of_desc k i.desc
 
--- what a module defines of a kind
+-- The entries that a module's own definitions add to an index space.
 abbrev pub own : (k : Space) → Module → List (Entry k)
 own Functions m = map (λ f. f.ty) m.funcs
 own Tables m = m.tables
@@ -93,7 +95,7 @@ own_many DataSegments m e = cc
 
 -- ---- types ----
 
--- the type of an entity, without limits
+-- The type of an entity, without limits.
 pub data Ty : Type 0 where
   FuncTy : FuncType → Ty
   TableTy : RefType → Ty
@@ -112,7 +114,7 @@ bare (TableOf t) = TableTy t.ty
 bare (MemoryOf l) = MemoryTy
 bare (GlobalOf t) = GlobalTy t
 
--- the type of an entry of a module's space
+-- The type of an entry of an index space of a module.
 abbrev pub type_of : Module → (k : Space) → Entry k → Option Ty
 type_of m Functions ty = option_and_then (λ t. Some (FuncTy t)) (slice_get m.types ty)
 type_of m Tables t = Some (TableTy t.ty)
@@ -125,7 +127,7 @@ type_of m DataSegments c = absurd c
 abbrev pub type_at : Module → (k : Space) → ℕ → Option Ty
 type_at m k i = option_and_then (type_of m k) (slice_get (space k m) i)
 
--- what an import adds to, and what stands in an index space, is an entity
+-- Only the index spaces of functions, tables, memories and globals have entries.
 pub entry_external : (k : Space) → Entry k → is_external k ≡ true
 entry_external Functions c = refl
 entry_external Tables c = refl
@@ -160,7 +162,8 @@ bare_is (GlobalOf t) (FuncOf u) h = cc
 bare_is (GlobalOf t) (TableOf u) h = cc
 bare_is (GlobalOf t) (MemoryOf u) h = cc
 
--- what an import asks for is of its kind, and has the type of the entry that it adds
+-- The external type that an import asks for is of the import's kind, and has the type of the entry
+-- that the import adds.
 pub asked_kind : (m : Module) (d : ImportDesc) (x : External) → asked m d ≡ Some x → kind_of (bare x) ≡ space_of_import d
 asked_kind m (im.Func ty) x h = by (slice_get m.types ty) h
   where
@@ -198,7 +201,7 @@ asked_type m Types d c x e h = absurd c
 asked_type m ElementSegments d c x e h = absurd c
 asked_type m DataSegments d c x e h = absurd c
 
--- what an entry is, is of its kind, and has its type
+-- The external type of an exported entry is of the entry's kind, and has the type of the entry.
 pub external_kind : (m : Module) (e : ExportDesc) (x : External) → external_of m e ≡ Some x → kind_of (bare x) ≡ space_of_export e
 external_kind m (ex.Func i) x h = by (type_of_func m i) h
   where

@@ -1,4 +1,5 @@
--- The new index of an entry of a part's index space stands in the merged module for an entity of the same type.
+-- The new index of an entry of a part's index space names, in the merged module, an entity of the
+-- same type.
 use Rattle.base_lists.proofs.Common.{◌≡◌, ◌∙◌, ap, ap₂, sym, subst, refl, ℕ, ◌+◌, ◌-◌, ◌<◌, ◌≤◌, List, length, Option, Some, None, true, arith, ◌⊎◌, inl, inr, option_and_then, unwrap_or, false, slice_get, filter, is_some_there, and_then_is, slice_get_within, slice_get_none, append_from, Has}
 use Rattle.base_lists.proofs.Common.{first_at, is_kept, place_of, places_many, append_left}
 use Rattle.wasm_tree_spec.specs.Prelude.{Space, same_space, Import, ExportDesc, Module, index_of_export, space_of_export, space_of_import}
@@ -17,7 +18,7 @@ use Rattle.merge_valid_proof.proofs.MergedSpaces.{staying_type, own_type}
 pub imports_many : (k : Space) (m : Module) → length (imports_of k m) ≡ length (imported k m)
 imports_many k m = places_many (has_kind k) (of_import k) m.imports (import_kind k) 0
 
--- what follows the imports is what the part defines
+-- An entry after the imports is one that the part defines.
 pub own_entry : (k : Space) (m : Module) (i : ℕ) (c : Entry k) → slice_get (imports_of k m) i ≡ None → slice_get (space k m) i ≡ Some c → slice_get (own k m) (i - length (imports_of k m)) ≡ Some c
 own_entry k m i c e h = by (append_from (imported k m) (own k m) i c h)
   where
@@ -28,7 +29,7 @@ own_entry k m i c e h = by (append_from (imported k m) (own k m) i c h)
     by (inl g) = let l = slice_get_within (imported k m) i c g in let q = imports_many k m in let f = few in absurd (omega (arith, l, q, f))
     by (inr r) = let q = imports_many k m in let d = r.1 in let z : i - length (imports_of k m) ≡ r.0 = omega (arith, q, d) in ap (slice_get (own k m)) z ∙ r.2
 
--- the import that an entry is
+-- An entry of an index space that is an import, with the type of the entry.
 pub record IsImport (k : Space) (m : Module) (n : ℕ) (y : Ty) : Type 0 where
   pub import : Import
   pub at : slice_get m.imports n ≡ Some import
@@ -46,7 +47,7 @@ import_entry k m i n y e t =
     let got : slice_get (imported k m) i ≡ Some c.0 = sym (append_left (imported k m) (own k m) i l) ∙ c.1 in
     record { import = r.1; at = ap (slice_get m.imports) at ∙ r.3; of_kind = r.4; entry = c.0; adds = sym r.5 ∙ got; typed = c.2 }
 
--- the import that an entity is, by the entry of the space
+-- The import that an entity of a part is, if it is one, found by its index.
 pub imported_is : (parts : List Part) (k : Space) (p : ℕ) (m : Module) (what : ExportDesc) (i : ℕ) → module_at parts p ≡ Some m → space_of_export what ≡ k → index_of_export what ≡ i →
     imported_as parts (record { part = p; what = what }) ≡ option_and_then {T = ℕ} {U = Site} (λ n. Some (record { part = p; import = n })) (slice_get (imports_of k m) i)
 imported_is parts k p m what i e a b =
@@ -62,13 +63,14 @@ no_import parts p n (Some x) h = cc
 count_is : (parts : List Part) (k : Space) (p : ℕ) (m : Module) → module_at parts p ≡ Some m → imported_count parts p k ≡ length (imports_of k m)
 count_is parts k p m e = ap (λ o. unwrap_or (option_and_then (λ m. Some (length (imports_of k m))) o) 0) e
 
--- the place of what a part defines
+-- The place of an entity that a part defines: after the staying imports and the definitions of
+-- earlier parts.
 pub end_defined : (parts : List Part) (k : Space) (e : Entity) (m : Module) → module_at parts e.part ≡ Some m →
     place_of_end parts k (Defined e) ≡ length (staying_of parts k) + (defined_before k parts e.part + (index_of_export e.what - length (imports_of k m)))
 unfolding place_of_end
 end_defined parts k e m is = ap (λ n. length (staying_of parts k) + (defined_before k parts e.part + (index_of_export e.what - n))) (count_is parts k e.part m is)
 
--- has its type there
+-- An entity that a part defines has its type at its place in the merged module.
 own_place : (parts : List Part) (names : List (Option Text)) (k : Space) (p : ℕ) (m : Module) (i : ℕ) (y : Ty) → module_at parts p ≡ Some m → slice_get (imports_of k m) i ≡ None → type_at m k i ≡ Some y →
     type_at (merged parts names) k (length (staying_of parts k) + (defined_before k parts p + (i - length (imports_of k m)))) ≡ Some y
 own_place parts names k p m i y is none t =
@@ -79,7 +81,7 @@ pub stays_is : (parts : List Part) (u : Site) → Stays parts u → stays parts 
 unfolding stays
 stays_is parts u w = ap (is_outside u) w.linked ∙ site_same u
 
--- an import that stays is among those of its kind
+-- A staying import is among the staying imports of its kind.
 staying_has : (parts : List Part) (k : Space) (u : Site) (i : Import) → import_at parts u ≡ Some i → stays parts u ≡ true → has_kind k i ≡ true → Has (staying_of parts k) u
 unfolding staying_of staying
 staying_has parts k u i at remains e =
@@ -87,7 +89,7 @@ staying_has parts k u i at remains e =
     let a = is_kept (stays parts) (sites parts) n.0 u n.1 remains in
     is_kept (imports_kind parts k) (filter (stays parts) (sites parts)) a.0 u a.1 (ap (λ o. unwrap_or (option_and_then (λ i. Some (has_kind k i)) o) false) at ∙ e)
 
--- and its place is there
+-- A staying import is at its place among the staying imports of its kind.
 pub staying_place : (parts : List Part) (k : Space) (u : Site) (i : Import) → import_at parts u ≡ Some i → stays parts u ≡ true → has_kind k i ≡ true → slice_get (staying_of parts k) (place_of_end parts k (Outside u)) ≡ Some u
 unfolding place_of_end
 staying_place parts k u i at remains e =
@@ -100,14 +102,14 @@ staying_place parts k u i at remains e =
 pub outside_place : (parts : List Part) (k : Space) (u : Site) (w : Stays parts u) → has_kind k w.import ≡ true → slice_get (staying_of parts k) (place_of_end parts k (Outside u)) ≡ Some u
 outside_place parts k u w e = staying_place parts k u w.import w.at (stays_is parts u w) e
 
--- the kind of an import is that of the type that it asks for
+-- The external type that a site asks for is the one of its import's description.
 pub kind_there : (parts : List Part) (u : Site) (i : Import) (x : External) (m : Module) → module_at parts u.part ≡ Some m → slice_get m.imports u.import ≡ Some i → asked_at parts u ≡ Some x → asked m i.desc ≡ Some x
 kind_there parts u i x m is at h = sym (ap (λ o. option_and_then (λ m. option_and_then (λ i. asked m i.desc) (slice_get m.imports u.import)) o) is ∙ ap (λ o. option_and_then (λ i. asked m i.desc) o) at) ∙ h
 
 pub has_its_kind : (k : Space) (i : Import) → space_of_import i.desc ≡ k → has_kind k i ≡ true
 has_its_kind k i e = ap (same_space k) e ∙ kind_same k
 
--- the kind of the import at which another ends
+-- The import at which an import of a kind ends is of that kind.
 pub outside_kind : (parts : List Part) (k : Space) (s : Site) (y : Ty) → kind_of y ≡ k → (w : EndsOutside parts s y) → has_kind k w.stays.import ≡ true
 outside_kind parts k s y q w =
     let m = import_site parts w.to w.stays.import w.stays.at in
@@ -123,7 +125,7 @@ outside_type parts names k s y q w =
     staying_type parts names k (place_of_end parts k (Outside w.to)) w.to m.0 w.stays.import c.0 (bare w.thing) (outside_place parts k w.to w.stays h) m.1 w.stays.at c.1 (asked_type m.0 k w.stays.import.desc c.0 w.thing c.1 x)
     ∙ ap Some w.typed
 
--- the entity with which an import ends, as an entry of its kind
+-- The entity with which an import ends, as an entry of an index space of its part.
 pub record IsOwn (parts : List Part) (k : Space) (e : Entity) (m : Module) (y : Ty) : Type 0 where
   pub kind : space_of_export e.what ≡ k
   pub own : slice_get (imports_of k m) (index_of_export e.what) ≡ None
@@ -150,7 +152,7 @@ inside_type parts names k s y q w =
 abbrev pub site_at : ℕ → ℕ → Site
 site_at p n = record { part = p; import = n }
 
--- by the import that the entry is, if it is one
+-- A new index is the place of the entry, found by the import that the entry is, if it is one.
 index_is : (parts : List Part) (p : ℕ) (m : Module) (k : Space) (i : ℕ) (o : Option ℕ) → module_at parts p ≡ Some m → slice_get (imports_of k m) i ≡ o → new_index parts p k i ≡ unwrap_or (place_of_entry parts p k i o) 0
 unfolding new_index
 index_is parts p m k i o is e =
@@ -163,7 +165,7 @@ pub index_defined : (parts : List Part) (p : ℕ) (m : Module) (k : Space) (i : 
     new_index parts p k i ≡ length (staying_of parts k) + (defined_before k parts p + (i - length (imports_of k m)))
 index_defined parts p m k i is none = index_is parts p m k i None is none ∙ ap (λ n. length (staying_of parts k) + (defined_before k parts p + (i - n))) (count_is parts k p m is)
 
--- an entry that is an import of linked parts
+-- An entry of a linked part's index space that is an import, with the import's end.
 pub record Joined (parts : List Part) (k : Space) (p : ℕ) (m : Module) (n : ℕ) (y : Ty) : Type 0 where
   pub entry : IsImport k m n y
   pub at : import_at parts (site_at p n) ≡ Some entry.import

@@ -42,7 +42,7 @@ named_back (x ∷ es) (None ∷ names) j e h = let r = named_back es names j e h
 named_back (x ∷ es) (Some n ∷ names) zero e h = let same : record x { name = n } ≡ e = cc in (x, (0, refl), ap (λ (e : Export). e.desc) (sym same))
 named_back (x ∷ es) (Some n ∷ names) (suc j) e h = let r = named_back es names j e h in (r.0, (suc r.1.0, r.1.1), r.2)
 
--- what the exports are called
+-- The names of the renamed exports are the names that were given.
 names_given : (es : List Export) (names : List (Option Text)) → length names ≤ length es → map (λ e. e.name) (named_exports es names) ≡ given names
 names_given [] [] l = refl
 names_given [] (n ∷ names) l = absurd (omega (arith, l))
@@ -55,7 +55,7 @@ map_take f zero xs = refl
 map_take f (suc n) [] = refl
 map_take f (suc n) (x ∷ xs) = ap (λ z. f x ∷ z) (map_take f n xs)
 
--- an export of the merged module comes from one of a part
+-- Each export of the merged module comes from an export of a part.
 pub export_from : (parts : List Part) (names : List (Option Text)) (j : ℕ) (e : Export) → slice_get (merged parts names).exports j ≡ Some e →
     (p : ℕ) × (m : Module) × (i : ℕ) × (x : Export) × (module_at parts p ≡ Some m) × (slice_get m.exports i ≡ Some x) × (e.desc ≡ (new_export (map_of parts p m) x).desc)
 unfolding all_exports

@@ -1,4 +1,5 @@
--- The imports of the merged module hold: their types are there, and the limits that they keep are limits.
+-- The imports of the merged module are valid: their types exist, and the limits that they keep are
+-- valid limits.
 use Rattle.base_lists.proofs.Common.{◌≡◌, ◌∙◌, ap, sym, subst, refl, ℕ, ◌<◌, ◌≤◌, List, [], ◌∷◌, length, Option, Some, None, Bool, true, false, cond, arith, option_and_then, slice_get, slice_index, max, ltb-false, slice_get_within, slice_get_there, Has, kept_is, chosen_from, and_then_is}
 use Rattle.std.specs.List.{cons_option}
 use Rattle.wasm_tree_spec.specs.Prelude.{Memories, Limits, Import, ImportDesc, Module, space_of_import}
@@ -33,7 +34,7 @@ no_clash s l h = by (is_under l.max l.min) h
     by true h = cc
     by false h = refl
 
--- the limits that are kept are limits
+-- The limits that a staying import keeps are valid limits, if no limits clash.
 pub limits_hold : (parts : List Part) (s : Site) (i : Import) (l : Limits) → stays parts s ≡ true → import_at parts s ≡ Some i → limits_of i.desc ≡ Some l → clash_fault parts s ≡ None → LimitsHold (met_limits parts s)
 unfolding clash_fault kept_limits
 limits_hold parts s i l remain at is h =
@@ -44,7 +45,7 @@ limits_hold parts s i l remain at is h =
     sym (ap (λ o. option_and_then {T = Limits} {U = LinkFault} (λ l. cond (is_under l.max l.min) (Some (LimitsClash s.part s.import)) None) o) kept) ∙ h in
     not_under (met_limits parts s).max (met_limits parts s).min (no_clash s (met_limits parts s) fits)
 
--- no more pages than a memory has
+-- Limits of at most 65536 pages.
 record Few (l : Limits) : Type 0 where
   low : l.min ≤ 65536
   high : MostIsAtMost l.max 65536
@@ -72,7 +73,7 @@ memory_few m (im.Func t) l e h p = absurd (let z = e in cc)
 memory_few m (im.Table t) l e h p = absurd (let z = e in cc)
 memory_few m (im.Global t) l e h p = absurd (let z = e in cc)
 
--- an import of a valid part holds
+-- An import of a valid part is valid.
 pub part_import : (m : Module) → ItemsHold m → (n : ℕ) (i : Import) → slice_get m.imports n ≡ Some i → ImportHolds m i.desc
 part_import m holds n i at =
     let got : slice_get m.imports n ≡ Some i = at in
@@ -82,7 +83,7 @@ part_import m holds n i at =
     subst (λ (x : Import). ImportHolds m x.desc) same z.2
 
 module _ (law : EndsArePaths) (parts : List Part) (links : AllAreSuited parts) (valid : (p : ℕ) (m : Module) → module_at parts p ≡ Some m → ItemsHold m) where
-  -- an import that ends at a memory is one of a memory
+  -- An import that ends at a memory import imports a memory.
   ends_alike : (s t : Site) (i j : Import) → import_at parts s ≡ Some i → import_at parts t ≡ Some j → space_of_import i.desc ≡ Memories → is_outside s (linked_end parts t) ≡ true → space_of_import j.desc ≡ Memories
   ends_alike s t i j at_s at_t e h = by (landed law parts links t w)
     where

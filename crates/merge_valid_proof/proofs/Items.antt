@@ -1,4 +1,5 @@
--- Each item of the merged module is valid, but for references: it comes from an item of a part, or it was added.
+-- Each item of the merged module is valid, but for references: it comes from an item of a part, or
+-- it is the function that calls several starts.
 use Rattle.base_lists.proofs.Common.{◌≡◌, ◌∙◌, ap, ap₂, sym, subst, refl, ℕ, ◌+◌, ◌^◌, ◌<◌, List, map, take, length, Option, Some, true, arith, ◌⊎◌, inl, inr, slice_get, slice_index, Contains, slice_get_within, slice_get_there, map_from, append_from}
 use Rattle.wasm_tree_spec.specs.Prelude.{Export, ElemMode, ElemSeg, DataMode, DataSeg, ConstExpr, Func, GlobalDef, Module, IsBounded, local_count, param_count, declared_count}
 use Rattle.wasm_tree.specs.declared.module.ElemMode.TheVariants as elem
@@ -39,7 +40,7 @@ defined_are : (parts : List Part) → defined_funcs parts ≡ by_part (λ p m. m
 unfolding defined_funcs
 defined_are parts = refl
 
--- an entry of what is joined by part
+-- An entry of a list that is joined by part, with the part from which it comes.
 record Of {A : Type 0} (f : ℕ → Module → List A) (parts : List Part) (x : A) : Type 0 where
   part : ℕ
   of : Module
@@ -55,7 +56,7 @@ comes f parts xs i x e h =
 
 -- ---- a function of the merged module ----
 
--- one of a part, or the function that calls several
+-- A function of the merged module that comes from a function of a part.
 record PartFunc (parts : List Part) (h : Func) : Type 0 where
   part : ℕ
   of : Module
@@ -65,7 +66,7 @@ record PartFunc (parts : List Part) (h : Func) : Type 0 where
   at : slice_get of.funcs place ≡ Some func
   new : h ≡ new_func (map_of parts part of) func
 
--- of functions of the merged module
+-- A function of the merged module comes from a part or is the one that calls several starts.
 func_from : (parts : List Part) (names : List (Option Text)) (j : ℕ) (h : Func) → slice_get (merged parts names).funcs j ≡ Some h → PartFunc parts h ⊎ ((k : ℕ) × (slice_get (start_calls parts (starts parts)) k ≡ Some h))
 func_from parts names j h at = by (append_from (defined_funcs parts) (start_calls parts (starts parts)) j h (ap (λ z. slice_get z j) (sym (funcs_are parts names)) ∙ at))
   where
@@ -76,7 +77,7 @@ func_from parts names j h at = by (append_from (defined_funcs parts) (start_call
         inl (record { part = r.part; of = r.of; place = r.place; func = f.0; is_part = r.is_part; at = f.1; new = sym f.2 })
     by (inr r) = inr (r.0, r.2)
 
--- the type of a function of a valid module
+-- The type index of a function of a valid module is within the types.
 func_typed : (m : Module) → ItemsHold m → (i : ℕ) (f : Func) → slice_get m.funcs i ≡ Some f → f.ty < length m.types
 func_typed m holds i f at =
     let z = holds kind.Func i (slice_get_within m.funcs i f at) in
@@ -84,7 +85,7 @@ func_typed m holds i f at =
     let same : z.0 ≡ f = cc in
     subst (λ (f : Func). f.ty < length m.types) same z.2
 
--- what each part names has an entry
+-- A valid module names only indices that have an entry in a map that covers it.
 abbrev pub TreeNames : Type 0
 TreeNames = (m : Remap) (t : Module) → ItemsHold t → Covers m t → TreeNamesOnly (with_entry m) t
 
@@ -106,7 +107,7 @@ module _ (law : EndsArePaths) (named : TreeNames) (undeclared : Undeclared) (par
   agree : (p : ℕ) (m : Module) → module_at parts p ≡ Some m → TreesAgree (map_of parts p m) (entered p m) m whole
   agree p m is = trees_agree law parts names links p m is (valid p m is)
 
-  -- what comes from an item of a part is valid
+  -- An item that comes from an item of a valid part is valid, but for references.
   by_stand : (p : ℕ) (m : Module) (k : ItemKind) (i j : ℕ) → module_at parts p ≡ Some m → i < count_of m true k → ItemComesFrom (map_of parts p m) (entered p m) m whole k i j → HoldsButForReferences whole k j
   by_stand p m k i j is lt s = undeclared (map_of parts p m) (entered p m) m whole k i j (agree p m is) s (valid p m is k i lt)
 

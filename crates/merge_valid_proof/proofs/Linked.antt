@@ -1,4 +1,5 @@
--- What it says that parts have no fault of linking: of each import, of the memories, and of each global that a part defines.
+-- What follows if parts have no fault of linking: for each import, for the memories, and for each
+-- global that a part defines.
 use Rattle.base_lists.proofs.Common.{◌≡◌, ◌∙◌, ap, ap₂, sym, subst, refl, ℕ, zero, suc, ◌+◌, ◌<◌, List, [], ◌∷◌, length, Option, Some, None, Bool, true, false, cond, arith, option_and_then, slice_get, slice_get_within, Has, and_then_is, unwrap_or_false_is, and_parts}
 use Rattle.std.specs.Option.{option_or}
 use Rattle.base_lists.proofs.Options.{left_none, right_none, none_given}
@@ -11,7 +12,7 @@ use Rattle.merge_spec.specs.Faults.{import_fault, DefinedGlobal, defined_globals
 use Rattle.merge_valid_proof.proofs.ByPart.{by_part_is, by_part_has}
 use Rattle.merge_valid_proof.proofs.Entities.{bare, bare_is}
 
--- ---- what stands in lists that are joined by part ----
+-- ---- entries of lists that are joined by part ----
 
 pub sites_are : (first : ℕ) (parts : List Part) → sites_from first parts ≡ by_part_from (λ p m. sites_in p (length m.imports) 0) first parts
 sites_are = by_part_is sites_from (λ p m. sites_in p (length m.imports) 0) (λ first. refl) (λ first part parts. refl)
@@ -44,7 +45,7 @@ own_in p n (x ∷ gs) (suc j) g h = own_in p (suc n) gs j g h ∙ ap {A = ℕ} {
 
 -- ---- no fault ----
 
--- an import ends, and what it asks for has the type of what is found there
+-- The end of an import, with an external type that suits the one that the import asks for.
 pub record Suited (parts : List Part) (s : Site) : Type 0 where
   pub end : End
   pub ends : end_of parts s ≡ Some end
@@ -117,7 +118,7 @@ are_linked parts h =
           (r.0, ap₂ (λ q x. read_of parts q x) (sym o.2) (sym o.3) ∙ r.1);
     }
 
--- where several memories are a fault, there are none
+-- Parts whose linking takes several memories for a fault have no fault of memories.
 pub memories_are_few : (parts : List Part) → link_fault parts false ≡ None → memory_fault parts ≡ None
 unfolding link_fault
 memories_are_few parts h =

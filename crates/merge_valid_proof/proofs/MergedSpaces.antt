@@ -1,4 +1,5 @@
--- The index spaces of the merged module: an import that stays and an entity that a part defines stand there at their places, with their types.
+-- The index spaces of the merged module: imports that stay and entities that parts define are at
+-- their places, with their types.
 use Rattle.base_lists.proofs.Common.{◌≡◌, ◌∙◌, ap, sym, subst, refl, ℕ, ◌+◌, List, [], ◌++◌, map, length, Option, Some, None, true, false, arith, option_and_then, unwrap_or, is_some, append-nil, slice_get, slice_index, filter_map, length-map, map-append, map_twice, map_at, append_at_left}
 use Rattle.base_lists.proofs.Common.{append_right, and_then_is, map-id}
 use Rattle.wasm_tree_spec.specs.Prelude.{Space, Types, Functions, Tables, Memories, Globals, ElementSegments, DataSegments, Import, ImportDesc, Module}
@@ -23,7 +24,8 @@ pub imports_are : (parts : List Part) (names : List (Option Text)) → (merged p
 unfolding merged
 imports_are parts names = refl
 
--- an entry as it stands in the merged module
+-- The entry of the merged module that an entry of a part becomes: the type index of a function
+-- changes.
 abbrev pub moved : List Part → (k : Space) → ℕ → Module → Entry k → Entry k
 moved parts Functions p m ty = slice_index (map_of parts p m).types ty
 moved parts Tables p m t = t
@@ -33,7 +35,7 @@ moved parts Types p m c = c
 moved parts ElementSegments p m c = c
 moved parts DataSegments p m c = c
 
--- the function that calls several starts
+-- The entries that are added to what the parts define: the function that calls several starts.
 abbrev pub extra : List Part → (k : Space) → List (Entry k)
 extra parts Functions = map (λ f. f.ty) (start_calls parts (starts parts))
 extra parts Tables = []
@@ -183,7 +185,7 @@ stood parts names Types s m d c y e is h = absurd c
 stood parts names ElementSegments s m d c y e is h = absurd c
 stood parts names DataSegments s m d c y e is h = absurd c
 
--- an import that stays has its type at its place
+-- A staying import has its type at its place in the merged module.
 pub staying_type : (parts : List Part) (names : List (Option Text)) (k : Space) (n : ℕ) (s : Site) (m : Module) (i : Import) (c : Entry k) (y : Ty) → slice_get (staying_of parts k) n ≡ Some s → module_at parts s.part ≡ Some m →
     import_at parts s ≡ Some i → of_desc k i.desc ≡ Some c → type_of m k c ≡ Some y → type_at (merged parts names) k n ≡ Some y
 staying_type parts names k n s m i c y h e at is t =
@@ -201,7 +203,7 @@ own_at parts names k q m j c e h =
     ap (λ z. slice_get z (defined_before k parts q + j)) (own_is parts names k ext) ∙ append_at_left (by_part (moved_own parts k) parts) (extra parts k) (defined_before k parts q + j) (moved parts k q m c) got in
     ap (λ z. slice_get (space k (merged parts names)) (z + (defined_before k parts q + j))) (sym (imported_many parts names k)) ∙ append_right (imported k (merged parts names)) (own k (merged parts names)) (defined_before k parts q + j) ∙ at
 
--- what a part defines has its type at its place
+-- An entity that a part defines has its type at its place in the merged module.
 pub own_type : (parts : List Part) (names : List (Option Text)) (k : Space) (q : ℕ) (m : Module) (j : ℕ) (c : Entry k) (y : Ty) → module_at parts q ≡ Some m → slice_get (own k m) j ≡ Some c → type_of m k c ≡ Some y →
     type_at (merged parts names) k (length (staying_of parts k) + (defined_before k parts q + j)) ≡ Some y
 own_type parts names k q m j c y e h t =

@@ -1,4 +1,5 @@
--- What the law of merged modules asks for is needed: two parts with a memory each have a fault of linking, and what their merge would be has two.
+-- Examples for the premise on memories: two parts with a memory each have a fault of linking, and
+-- their merged module would have two memories; a single part with a memory has neither.
 use Rattle.base_lists.proofs.Common.{◌≡◌, false, refl, [], ◌∷◌, List, Some, None, length}
 use Rattle.wasm_tree_spec.specs.Prelude.{Module, memories_of}
 use Rattle.wasm_meaning.specs.Prelude.{Part}

@@ -1,4 +1,4 @@
--- The tests of sameness: what passes them is equal, and each passes with itself.
+-- The tests of sameness: two values that pass one are equal, and each value passes with itself.
 use Rattle.base_lists.proofs.Common.{◌≡◌, ap₂, refl, Bool, true, nat_eq, arith, eqb-true, and_parts, and_from}
 use Rattle.base_lists.proofs.Same.{text_is, text_self}
 use Rattle.std.proofs.Common.{eq-eqb}

@@ -1,4 +1,5 @@
--- The start of the merged module: the start functions of the parts take and give nothing, and so does the function that calls several of them.
+-- The start of the merged module: the start functions of the parts take and give nothing, and so
+-- does the function that calls several of them.
 use Rattle.base_lists.proofs.Common.{◌≡◌, ◌∙◌, ap, ap₂, sym, subst, refl, ℕ, zero, suc, ◌+◌, ◌<◌, List, [], ◌∷◌, ◌++◌, map, length, Option, Some, None, arith, slice_get, option_and_then, append_right, Has}
 use Rattle.wasm_tree_spec.specs.Prelude.{Functions, FuncType, Func, Module, Call, funcs_of, type_of_func}
 use Rattle.wasm_valid_bodies.specs.Typing.{Context, Gives, LeadsAll, WellTyped, effect_of, gives_of, signature_in}
@@ -25,7 +26,7 @@ pub funcs_are : (parts : List Part) (names : List (Option Text)) → (merged par
 unfolding merged
 funcs_are parts names = refl
 
--- the type of a start function
+-- A function type without parameters and results is the type of a start function.
 nothing : (t : FuncType) → t.params ≡ [] → t.results ≡ [] → t ≡ nullary
 nothing t a b = ap₂ (λ p r. record { params = p; results = r }) a b
 
@@ -48,7 +49,7 @@ calls_typed c fs each = ([], calls_lead c fs each, tt)
 -- ---- the starts ----
 
 module _ (law : EndsArePaths) (parts : List Part) (names : List (Option Text)) (links : AllAreSuited parts) (valid : (p : ℕ) (m : Module) → module_at parts p ≡ Some m → ItemsHold m) where
-  -- a start function of a part
+  -- A start function of the merged module, with the start function of a part from which it comes.
   record Started (f : ℕ) : Type 0 where
     part : ℕ
     of : Module
@@ -78,7 +79,6 @@ module _ (law : EndsArePaths) (parts : List Part) (names : List (Option Text)) (
       ap_lt None x h = absurd (let k = h in cc)
       ap_lt (Some y) x h = omega arith
 
-  -- a start function of the merged module takes and gives nothing
   pub start_typed : (i f : ℕ) → slice_get (starts parts) i ≡ Some f → type_of_func (merged parts names) f ≡ Some nullary
   start_typed i f h =
       let s = started i f h in
@@ -91,7 +91,7 @@ module _ (law : EndsArePaths) (parts : List Part) (names : List (Option Text)) (
       by None h = absurd (let k = h in cc)
       by (Some ty) h = (ty, h)
 
-  -- the type of the function that calls several
+  -- The merged types have the type of the function that calls several starts, if there is a start.
   pub nullary_there : (i f : ℕ) → slice_get (starts parts) i ≡ Some f → slice_get (merged parts names).types (place_of_type parts nullary) ≡ Some nullary
   nullary_there i f h =
       let s = started i f h in
@@ -123,7 +123,7 @@ module _ (law : EndsArePaths) (parts : List Part) (names : List (Option Text)) (
 
   -- ---- the function that calls several ----
 
-  -- one of the functions that are added
+  -- A function that is added to the merged module: it calls all starts.
   pub record IsCalls (h : Func) : Type 0 where
     pub some : (f : ℕ) × (slice_get (starts parts) 0 ≡ Some f)
     pub is : h ≡ record { ty = place_of_type parts nullary; locals = []; body = map Call (starts parts) }

@@ -1,4 +1,4 @@
--- Each type of a part stands among the merged types, at the entry that the part's map has for it.
+-- Each type of a part is among the merged types, at the entry that the part's map has for it.
 use Rattle.base_lists.proofs.Common.{◌≡◌, ◌∙◌, ap, sym, subst, refl, ℕ, zero, suc, ◌+◌, List, [], ◌∷◌, ◌++◌, map, Some, Bool, true, false, cond, arith, unwrap_or, slice_get, slice_index, flat_map, list_any, slice_index_is, map_at, has_left, has_right, Has, first_at, list_any_there, each_same_is}
 use Rattle.base_lists.proofs.Common.{each_same_self}
 use Rattle.wasm_tree_spec.specs.Prelude.{FuncType, Module, same_type}
@@ -56,6 +56,5 @@ types_map parts p m = refl
 pub type_entry : (parts : List Part) (p : ℕ) (m : Module) (ty : ℕ) (t : FuncType) → slice_get m.types ty ≡ Some t → slice_index (map_of parts p m).types ty ≡ place_of_type parts t
 type_entry parts p m ty t h = ap (λ z. slice_index z ty) (types_map parts p m) ∙ slice_index_is (map (place_of_type parts) m.types) ty (place_of_type parts t) (map_at (place_of_type parts) m.types ty t h)
 
--- the entry of a part's type is that type
 pub type_stands : (parts : List Part) (p : ℕ) (m : Module) (ty : ℕ) (t : FuncType) → module_at parts p ≡ Some m → slice_get m.types ty ≡ Some t → slice_get (merged_types parts) (slice_index (map_of parts p m).types ty) ≡ Some t
 type_stands parts p m ty t e h = ap (slice_get (merged_types parts)) (type_entry parts p m ty t h) ∙ type_placed parts p m t e (ty, h)

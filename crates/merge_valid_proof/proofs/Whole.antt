@@ -1,4 +1,5 @@
--- The merged module with its references declared is valid, a u32 can count what it has, and it has at most one memory.
+-- The merged module with its references declared is valid, a u32 can count its lists, and it has at
+-- most one memory.
 use Rattle.base_lists.proofs.Common.{◌≡◌, ◌∙◌, ap, sym, subst, refl, ℕ, ◌+◌, ◌^◌, ◌<◌, List, length, Option, Some, None, IsTrue, false}
 use Rattle.wasm_tree_spec.specs.Prelude.{ConstExpr, Module, IsBounded}
 use Rattle.wasm_valid.specs.Prelude.{IsValid, IsSingle, ItemsHold, ValidWhereItemsHold}
@@ -26,7 +27,7 @@ joined_is : (parts : List Part) (mode : Mode) → joined_module parts mode ≡ d
 unfolding joined_module
 joined_is parts mode = refl
 
--- what the laws below say
+-- The laws of lower crates on which the validity of the merged module rests.
 pub record Laws : Type 0 where
   pub items : ValidWhereItemsHold
   pub entries : (m : Remap) (t : Module) → IsValid t → Covers m t → IsTrue (fits_tree m t)

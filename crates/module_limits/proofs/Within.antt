@@ -1,4 +1,4 @@
--- A module none of whose counts is above its limit.
+-- A module is within the limits if no count is over its limit.
 use Rattle.base_lists.proofs.Common.{◌≡◌, ℕ, ◌≤◌, length, Option, Some, None, Bool, true, false, cond, nat_lt, refl, ltb-false}
 use Rattle.wasm_tree_spec.specs.Prelude.{Which, Module, limit}
 use Rattle.wasm_tree.specs.declared.which.Which.TheVariants as which

@@ -17,14 +17,16 @@ option_or_twice : {A : Type 0} (a b c d : Option A) → d ≡ option_or b c → 
 option_or_twice (Some x) b c d e = refl
 option_or_twice None b c d e = e
 
--- one of two
+-- An option that is one of two holds what the first holds, or what the second holds where the first
+-- is none.
 either : {A : Type 0} (a b : Option A) (y : A) → option_or a b ≡ Some y → (a ≡ Some y) ⊎ ((a ≡ None) × (b ≡ Some y))
 either (Some x) b y h = inl h
 either None b y h = inr (refl, h)
 
 -- ---- the first that is given
 
--- the element that gives it, where those before give nothing
+-- The first element for which the function gives this value, with the elements before it, for which
+-- the function gives nothing.
 abbrev First : {A B : Type 0} → (A → Option B) → List A → B → Type 0
 First {A} f xs y = (front : List A) × (x : A) × (back : List A) × (xs ≡ front ++ x ∷ back) × Every (λ z. f z ≡ None) front × (f x ≡ Some y)
 
@@ -78,7 +80,7 @@ module _ (m : Module) (names : List FuncName) where
       split (func ∷ []) exported b x h = rw b refl
       split (func ∷ other ∷ more) exported b x h = absurd (let t = rw b at h.1 in cc)
 
-  -- what a word's fault says of it
+  -- A fault of a word says that the word names no function, or that several functions share it.
   abbrev WordFault : List ℕ → PlanFault → Type 0
   WordFault word e = ((e ≡ NoSuchFunction word) × NamesNone m names word) ⊎ ((e ≡ AmbiguousFunction word) × IsShared m names word)
 
@@ -140,7 +142,8 @@ module _ (m : Module) (names : List FuncName) where
     abbrev last_fault : Option PlanFault
     last_fault = first_given (keeps (words_of keep)) (words_of split)
 
-    -- the words' faults go first
+    -- The faults of single words are reported before the fault that a function is both kept and
+    -- split.
     in_order : plan_fault m names split keep ≡ option_or (first_given (word_fault m names) all_words) last_fault
     in_order =
         option_or_twice (first_given (word_fault m names) (words_of split)) (first_given (word_fault m names) (words_of keep)) last_fault _ refl

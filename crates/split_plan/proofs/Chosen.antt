@@ -1,4 +1,4 @@
--- The functions that are chosen, one by one.
+-- The functions that are chosen to move are found one number at a time.
 use Rattle.base_lists.proofs.Common.{◌≡◌, ℕ, ◌+◌, ◌-◌, ◌<◌, List, [], ◌∷◌, ◌++◌, length, Bool, true, false, ◌&&◌, cond, refl, sym, ap, ◌∙◌, arith, get_or, ◌≤◌, zero, suc, slice_index, map, Result, Ok, Err, IfOk, subst, not, IsStrictlyIncreasing, slice_get-get_or, lt-ltb, le-leb, not-true}
 use Rattle.base_lists.proofs.Common.{length-map, right_true, filter-append, numbers_more, numbers_at, length-numbers, slice_index_is}
 use Rattle.std.proofs.Common.{filter, length-append}
@@ -11,7 +11,7 @@ use Rattle.split_plan.specs.declared.plans.Plan.{Plan}
 use Rattle.split_plan.specs.NamedFunctions.{is_defined}
 use Rattle.split_plan.specs.Plans.{body_uses_segment, defined_funcs, plan_for, IsPlan, WhatIsPlannedIsAPlan}
 
--- one more number is tested
+-- A step of the loop: one more number is tested, and kept if it passes.
 pub filter_more : (test : ℕ → Bool) (first at : ℕ) (b : Bool) (old new : List ℕ) → test (first + at) ≡ b → new ≡ old ++ cond b ((first + at) ∷ []) [] → old ≡ filter test (numbers first at) → new ≡ filter test (numbers first (at + 1))
 filter_more test first at b old new is more h =
     more ∙ ap (λ xs. xs ++ cond b ((first + at) ∷ []) []) h
@@ -19,7 +19,7 @@ filter_more test first at b old new is more h =
     ∙ sym (filter-append test (numbers first at) ((first + at) ∷ []))
     ∙ ap (filter test) (sym (numbers_more first at))
 
--- the body of a defined function
+-- A defined function uses a segment exactly where its body in the module's list of functions does.
 pub body_at : (m : Module) (first at : ℕ) (f : Func) → first ≡ length (imported_funcs m.imports) → at < length m.funcs → f ≡ get_or m.funcs at f → body_uses_segment m (first + at) ≡ uses_segment f.body
 body_at m first at f begins lt is =
     let same : first + at - length (imported_funcs m.imports) ≡ at = omega arith in
@@ -30,7 +30,7 @@ both {a} {b} {c} {d} e f = ap (λ x. x && c) e ∙ ap (λ y. b && y) f
 
 -- ---- plans
 
--- what is tested of the defined functions alone
+-- Two tests that agree on a range of numbers keep the same numbers of it.
 pub filter_alike : (test other : ℕ → Bool) (first count : ℕ) → ((n : ℕ) → first ≤ n → n < first + count → test n ≡ other n) → filter test (numbers first count) ≡ filter other (numbers first count)
 filter_alike test other first zero same = refl
 filter_alike test other first (suc count) same =

@@ -1,4 +1,4 @@
--- From what is looked up to the plan and its first fault.
+-- The plan and its first fault are computed correctly from a table of names.
 use Rattle.base_lists.proofs.Common.{◌≡◌, ℕ, ◌<◌, List, [], ◌∷◌, length, map, Bool, true, false, ◌&&◌, ◌⊎◌, inl, inr, ⊎_elim, Option, Some, None, refl, sym, ap, ◌∙◌, arith, slice_get, ◌==◌, not, find, list_any, option_map_or, bytes_eq, ltb-true, length-map, cond_is, right_true, kept_is}
 use Rattle.base_lists.proofs.Common.{option_map_is, map_from}
 use Rattle.std.proofs.Common.{filter, length-append}
@@ -16,7 +16,7 @@ use Rattle.split_plan.specs.Plans.{kept_fault, words_of, plan_fault, is_wanted, 
 use Rattle.split_plan.proofs.Tables.{entered_func, entered_fault}
 use Rattle.split_plan.proofs.Chosen.{plan_alike}
 
--- two functions that give the same are one
+-- Function extensionality: functions with equal values are equal.
 same_function : {A B : Type 0} {f g : A → B} → ((x : A) → f x ≡ g x) → f ≡ g
 same_function h = λ i. λ x. h x i
 

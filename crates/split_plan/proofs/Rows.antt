@@ -29,7 +29,7 @@ small = record {
 abbrev called : ℕ → ℕ → FuncName
 called index letter = record { index = index; name = letter ∷ [] }
 
--- `i` is the imported function 0, `a` is function 1, `s` both defined ones
+-- The name `i` is of the imported function 0, `a` of function 1, and `s` of both defined functions.
 abbrev names : List FuncName
 names = called 0 0x69 ∷ called 1 0x61 ∷ called 1 0x73 ∷ called 2 0x73 ∷ called 9 0x6E ∷ []
 
@@ -39,18 +39,19 @@ word letter = letter ∷ []
 by_name : function_of small names (word 0x61) ≡ Some 1
 by_name = refl
 
--- none bears the word, and a defined function is exported under it
+-- A word that is no name of a function names the defined function that is exported under it.
 by_export : function_of small names (word 0x67) ≡ Some 2
 by_export = refl
 
--- an imported function bears no word, also where it is exported
+-- A word never names an imported function, even one that is exported.
 no_import : plan_fault small names (Some (word 0x61 ∷ word 0x69 ∷ [])) None ≡ Some (NoSuchFunction (word 0x69))
 no_import = refl
 
 not_there : plan_fault small names (Some (word 0x6E ∷ [])) None ≡ Some (NoSuchFunction (word 0x6E))
 not_there = refl
 
--- a word to split goes before one to keep, and both before a function that is kept and split
+-- Faults of words to split are reported before those of words to keep, and both before a function
+-- that is kept and split.
 in_order : plan_fault small names (Some (word 0x61 ∷ word 0x73 ∷ [])) (Some (word 0x69 ∷ word 0x61 ∷ [])) ≡ Some (AmbiguousFunction (word 0x73))
 in_order = refl
 
@@ -60,10 +61,10 @@ keep_too = refl
 both_ways : plan_fault small names (Some (word 0x67 ∷ word 0x61 ∷ [])) (Some (word 0x61 ∷ [])) ≡ Some (KeptAndSplit (word 0x61))
 both_ways = refl
 
--- what the words to split name moves, whatever their order
+-- The functions that the words to split name move, in the order of their indices.
 moved : plan_of small names (Some (word 0x67 ∷ word 0x61 ∷ word 0x67 ∷ [])) None ≡ record { moved = 1 ∷ 2 ∷ []; kept = [] }
 moved = refl
 
--- without them all moves that no word to keep names
+-- Without words to split, each defined function moves that no word to keep names.
 others : plan_of small names None (Some (word 0x61 ∷ [])) ≡ record { moved = 2 ∷ []; kept = [] }
 others = refl

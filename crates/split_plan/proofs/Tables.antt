@@ -1,4 +1,4 @@
--- Steps by which a table of names is filled.
+-- The loops that fill a table of names, one name or export at a time.
 use Rattle.base_lists.proofs.Common.{◌≡◌, ℕ, ◌+◌, ◌-◌, ◌<◌, ◌≤◌, length, drop, get_or, arith, List, [], ◌∷◌, map, Bool, true, false, cond, ◌&&◌, Option, Some, None, refl, sym, ap, ◌∙◌, and-false, at_drop_more, option_map, find, bytes_eq, bytes_eq-Decides}
 use Rattle.std.proofs.Common.{filter}
 use Rattle.std.proofs.Math.Bool.{and-true}
@@ -9,7 +9,7 @@ use Rattle.split_plan.specs.declared.named.Named.TheVariants.{Exported}
 use Rattle.split_plan.specs.NamedFunctions.{is_defined, is_defined_export, exported_among, entries_with_name, one_of, fault_of}
 use Rattle.split_plan.specs.Looking.{entered, once_more, func_in, fault_in}
 
--- a function of what is behind a place, one step towards the front
+-- A function of the rest of a list from a place on, one step towards the front of the list.
 pub at_one_before : {A B : Type 0} (F : List A → B) (xs : List A) (at : ℕ) (x : A) → 0 < at → at ≤ length xs → x ≡ get_or xs (at - 1) x → F (drop (at - 1) xs) ≡ F (x ∷ drop at xs)
 at_one_before F xs at x above within is =
     let same : at - 1 + 1 ≡ at = omega arith in
@@ -54,7 +54,7 @@ module _ (m : Module) (n : FuncName) (ns : List FuncName) (word : List ℕ) (exp
   pub name_passes : is_defined m n.index ≡ false → entered (entries_with_name m (n ∷ ns) word) exported ≡ entered (entries_with_name m ns word) exported
   name_passes other = rw (other, and-false) refl
 
--- what is entered in place of what was there
+-- A new entry replaces the former entry of its word and leaves those of other words.
 pub put_once_more : (func : ℕ) (new : Named) (name : List ℕ) (held : List ℕ → Option Named) → once_more func (held name) ≡ Some new → (word : List ℕ) → cond (bytes_eq name word) (Some new) (held word) ≡ cond (bytes_eq name word) (once_more func (held word)) (held word)
 put_once_more func new name held is word = split (bytes_eq name word) refl
   where

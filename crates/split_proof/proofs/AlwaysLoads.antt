@@ -1,5 +1,5 @@
--- In each run of a split module under its loader, each secondary module can be loaded wherever it is: once it is instantiated, the indices of the primary module's instance go on
--- to name what the primary module says.
+-- Each secondary module can be loaded wherever a run of a split module under its loader asks for
+-- it: the instance of the primary module stays well typed after its instantiation.
 use Rattle.base_lists.proofs.Common.{◌≡◌, ◌∙◌, ap, sym, subst, refl, ℕ, zero, suc, ◌^◌, ◌<◌, List, [], ◌∷◌, length, Option, Some, None, Bool, true, false, cond, arith, same_Some, and_then_is}
 use Rattle.base_lists.specs.Options.{◌>>=◌, all_there}
 use Rattle.wasm_tree_spec.specs.Prelude.{Module, IsBounded}
@@ -24,7 +24,7 @@ use Rattle.split_proof.proofs.LoadNames.{own_can}
 use Rattle.split_proof.proofs.OwnSlots.{owns_slot}
 use Rattle.split_proof.proofs.Placeholders.{moved_few}
 
--- what the laws below say
+-- The laws that the lemmas of this file assume.
 pub record LoadLaws : Type 0 where
   pub items : ValidWhereItemsHold
   pub primary : (namespace : ℕ → List ℕ) (prefix : List ℕ) (m : Module) (moved : List ℕ) → IsValid m → IsBounded m → CanMove m moved → prefix_taken prefix m moved ≡ None → IsValid (primary_with namespace prefix m moved)
@@ -51,12 +51,12 @@ module _ (laws : LoadLaws) (namespace : ℕ → List ℕ) (names : SplitNames) (
   pub small : length moved < 2 ^ 32
   small = let a = moved_few namespace names m moved owns g ((laws.items m).0 g.valid) in let b = g.bounded.funcs in omega (arith, a, b)
 
-  -- past the first step: it is over, or the primary module's instance is typed
+  -- A run after its first step is over, or the instance of the primary module is well typed.
   data Stage (q : LoaderRun) : Type 0 where
     over : IsOver q.run → Stage q
     going : IsBegun q.run.phase → (i : Inst) → q.inst ≡ Some i → IsTyped w.primary i q.run.store → Stage q
 
-  -- a secondary module can be loaded where the instance is typed
+  -- A secondary module can be loaded where the instance of the primary module is well typed.
   can_be_loaded : (q : LoaderRun) (i : Inst) → q.inst ≡ Some i → (s : Store) → IsTyped w.primary i s → (slot j : ℕ) → secondary_of w.secondaries slot ≡ Some j → CanBeLoaded w q j s
   can_be_loaded q i is_inst s typed slot j place =
       let x = owns_slot namespace names m moved owns [] 0 (sym g.lists) refl slot j place in
@@ -90,7 +90,7 @@ module _ (laws : LoadLaws) (namespace : ℕ → List ℕ) (names : SplitNames) (
   later_stage (suc n) q h = later_stage n (tick_loader w q).0 (next_stage q h)
 
   module _ (env : Environment) (moves : List Move) where
-    -- the first step, by what the instantiation comes to
+    -- The first step, by cases of the result of the instantiation.
     begun_stage : (a : Added) → primary_added env w ≡ Some a → (o : Option Begun) → begun_of env w a ≡ o →
         Stage (record { run = (began (fresh_run env o moves) o).0; inst = Some a.inst; loaded = (fresh_loader env w moves).loaded })
     begun_stage a is None h = over (record { phase = refl; entries = refl })

@@ -1,4 +1,5 @@
--- The runs stand at the same place again where a function that moves was entered: in its slot already, or loaded first.
+-- The states of both runs correspond after a moved function is entered, whether it is in its slot
+-- already or is loaded first.
 use Rattle.base_lists.proofs.Common.{◌≡◌, ◌∙◌, sym, ap, ap₂, subst, ℕ, zero, suc, ◌+◌, ◌^◌, ◌<◌, ◌≤◌, List, [], ◌∷◌, ◌++◌, Some, None, Bool, true, false, arith, slice_get, slice_set, pos, decimal, slice_get_within, same_Some, set_at}
 use Rattle.base_lists.specs.Options.{◌>>=◌}
 use Rattle.std.specs.List.{cons_option}
@@ -25,7 +26,8 @@ use Rattle.split_proof.proofs.Placeholders.{placeholders_are, moved_typed, slot_
 use Rattle.split_proof.proofs.Settled.{SettleLaws, w, runs_wider, module_loaded, module_is, load_fills, more, settled_run, settled}
 use Rattle.split_proof.proofs.Stuttering.{StutteringSteps, at, step_is, stuttering_state, stuttering_events, last_state, last_events}
 
--- the placeholder of a slot
+-- The placeholder of a slot has the namespace and the number of the slot, and the type of the moved
+-- function.
 placeholder_there : (namespace : ℕ → List ℕ) (m : Module) (from : ℕ) (fs : List ℕ) (p f : ℕ) → slice_get fs p ≡ Some f → slice_get (placeholders_for namespace m from fs) p ≡ Some ((namespace (from + p), decimal (from + p)), type_in m f)
 placeholder_there namespace m from [] p f at = absurd (let k = at in cc)
 placeholder_there namespace m from (x ∷ fs) zero f at =
@@ -39,12 +41,12 @@ module _ (laws : SettleLaws) (answered : PlaceholdersAreAnswered) (namespace : �
   abbrev pub world : LoaderWorld
   world = w laws namespace names m moved owns g env first second alike
 
-  -- what a slot of these runs is, with its table
+  -- The slots of corresponding states, with their table.
   module _ (loaded : List (ℕ × ℕ)) (r : Run) (q : LoaderRun) (h : Corresponds env m moved world first second loaded r q) (p f : ℕ) (is : slice_get moved p ≡ Some f) where
     few : p < 2 ^ 32
     few = let lt = slice_get_within moved p f is in let a = small laws.load namespace names m moved owns g in omega (arith, lt, a)
 
-    -- by the indices of the primary module's instance
+    -- The indices of the primary module's instance name a function of the right type in a slot.
     pub in_slot : (c : ℕ) (d : Func) → slice_get h.funcs.table.slots p ≡ Some (FuncRef (Some c)) → slice_get q.run.store.funcs c ≡ Some d → type_of d ≡ type_in m f → InSlot q.run.store second (type_in m f) (type_index m f) (slot_table m) (pos p) c
     in_slot c d refers stands typed = record {
       type = ap (λ ts. slice_get ts (type_index m f)) alike.types ∙ moved_typed namespace names m moved owns g (holds laws.begin namespace names m moved owns g) p f is;
@@ -72,7 +74,8 @@ module _ (laws : SettleLaws) (answered : PlaceholdersAreAnswered) (namespace : �
     nothing_seen : events_of tick r 1 ≡ []
     nothing_seen = ap (λ (o : Out). cons_option o.1 []) (first_enters r k ms vs es first_is)
 
-    -- after so many stuttering steps
+    -- The step is answered where the second run enters the function after a bounded number of
+    -- stuttering steps.
     pub entered : (n : ℕ) → n ≤ most + 2 → StutteringSteps (tick_loader world) (suc n) q there → StepAnswered env m moved world first second most r q
     entered n le silent = record {
       further = n;
@@ -98,7 +101,7 @@ module _ (laws : SettleLaws) (answered : PlaceholdersAreAnswered) (namespace : �
     pub settles : Corresponds env m moved world first second all r later
     settles = settled laws namespace names m moved owns g env first second alike loaded r q h p z.secondary z.is_place flag
 
-    -- then the function is in the slot
+    -- After the load the slot refers to the loaded function.
     pub record InPlace : Type 0 where
       pub func : ℕ
       pub refers : slice_get settles.funcs.table.slots p ≡ Some (FuncRef (Some func))
@@ -117,7 +120,7 @@ module _ (laws : SettleLaws) (answered : PlaceholdersAreAnswered) (namespace : �
             let set : slice_get (slice_set q.loaded z.secondary true) y.secondary ≡ Some true = ap (slice_get (slice_set q.loaded z.secondary true)) same ∙ set_at q.loaded z.secondary true (slice_get_within q.loaded z.secondary false flag) in
             from (same_Some _ _ (sym y.loaded_is ∙ set)) y.holds
 
-    -- what was related is so still
+    -- The arguments, related before the load, are related after it.
     values_still : ListRel (ValRel (split_pairing env m moved all)) vs ws
     values_still = by ((runs_wider laws namespace names m moved owns g env first second alike loaded (more laws namespace names m moved owns g env first second alike loaded r q h p z.secondary z.is_place flag) (record r { entries = Ended vs ∷ [] }) (record q.run { entries = Ended ws ∷ [] })
         (record { store = h.related.store; entries = between.WithPassing.cons (ended v) between.WithPassing.nil; phase = h.related.phase; shown = h.related.shown; view = h.related.view; owned = h.related.owned; moves = h.related.moves })).entries)
@@ -130,7 +133,7 @@ module _ (laws : SettleLaws) (answered : PlaceholdersAreAnswered) (namespace : �
         (runs_wider laws namespace names m moved owns g env first second alike loaded (more laws namespace names m moved owns g env first second alike loaded r q h p z.secondary z.is_place flag) (record r { entries = xs }) (record q.run { entries = ys })
         (record { store = h.related.store; entries = e; phase = h.related.phase; shown = h.related.shown; view = h.related.view; owned = h.related.owned; moves = h.related.moves })).entries
 
-    -- a run that calls it
+    -- The second run in a state in which it calls the placeholder.
     abbrev pub calling : Store → List Entry → LoaderRun
     calling t gs = record q { run = at (record q.run { moves = ms }) t gs }
 
@@ -168,7 +171,8 @@ module _ (laws : SettleLaws) (answered : PlaceholdersAreAnswered) (namespace : �
       nothing_seen_then : events_of tick r 1 ≡ []
       nothing_seen_then = ap (λ (o : Out). cons_option o.1 []) (first_enters r in_place.code ms vs es first_is)
 
-      -- after so many stuttering steps it is called
+      -- The step is answered where the second run calls the placeholder after a bounded number of
+      -- stuttering steps.
       pub loaded_first : (n : ℕ) → n ≤ most + 2 → (t : Store) (gs : List Entry) → StutteringSteps (tick_loader world) n q (calling t gs) → step t gs ≡ Gives (CallsPlaceholder p ws q.run.store fs) → StepAnswered env m moved world first second most r q
       unfolding is_answered
       loaded_first n le t gs silent calls =

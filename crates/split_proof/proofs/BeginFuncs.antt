@@ -1,4 +1,4 @@
--- What functions stand in the stores in which a module and its split begin.
+-- The functions of the stores after a module and its split are instantiated.
 use Rattle.base_lists.proofs.Common.{◌≡◌, ◌∙◌, ap, ap₂, sym, subst, refl, ℕ, zero, suc, ◌+◌, ◌-◌, ◌⊎◌, inl, inr, List, [], ◌∷◌, ◌++◌, map, length, Option, Some, None, true, arith, append-nil, option_and_then, slice_get, slice_index, pos, option_map_or, length-append, same_Some, numbers_index}
 use Rattle.base_lists.proofs.Common.{and_then_is, all_there_at, append_at_left, append_from, append_right, map_from, map_twice, slice_get_there, slice_index_is, all_there_back, there_among, place_is, no_place}
 use Rattle.wasm_tree_spec.specs.Prelude.{FuncType, Module, funcs_of, tables_of, type_of_func, Functions}
@@ -62,7 +62,7 @@ module _ (laws : Laws) (namespace : ℕ → List ℕ) (names : SplitNames) (m : 
 
   -- ---- the module ----
 
-  -- a loader with the module alone
+  -- The world of a loader with the module alone and no secondary module.
   abbrev lone : LoaderWorld
   lone = record { primary = m; secondaries = []; slot_table = 0; view = map (λ e. (e.name, e.desc)) m.exports }
 
@@ -144,7 +144,7 @@ module _ (laws : Laws) (namespace : ℕ → List ℕ) (names : SplitNames) (m : 
         ap (λ fs. slice_get fs (O + (length moved + n))) second_begins.funcs ∙ ap (slice_get ((own_funcs env ++ placeholders_from 0 (placeholders_of w)) ++ second_begins.defined)) index
         ∙ append_right (own_funcs env ++ placeholders_from 0 (placeholders_of w)) second_begins.defined n ∙ x.2 ∙ sym x.1
 
-    -- the place of a function that moves is its slot
+    -- The place of a moved function on the list is its slot.
     slot_is : (slot func : ℕ) → slice_get moved slot ≡ Some func → place_among moved func ≡ Some slot
     slot_is slot func at = by (place_among moved func) refl
       where

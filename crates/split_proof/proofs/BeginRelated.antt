@@ -1,4 +1,5 @@
--- A module alone, and its primary module with stubs in place of its placeholders: what they define, their segments, views and starts correspond.
+-- The definitions, segments, views and start functions of a module alone correspond to those of its
+-- primary module with stubs in place of the placeholders.
 use Rattle.base_lists.proofs.Common.{◌≡◌, ◌∙◌, ap, sym, subst, refl, ℕ, zero, suc, ◌+◌, ◌<◌, List, [], ◌∷◌, ◌++◌, map, take, length, Option, Some, Bool, true, false, cond, arith, option_map, append-nil, ⊎_elim, slice_get, slice_index, cons_option, length-map, map-id, slice_get_within, same_Some}
 use Rattle.base_lists.proofs.Common.{length-numbers, numbers_index, append_at_left, append_left, map_at, push_last, slice_get_there, cases_Bool, append_rel, then_rel, there_contains}
 use Rattle.base_lists.proofs.Same.{text_is, text_self}
@@ -81,11 +82,11 @@ taken_at zero p (y ∷ xs) x lt h = absurd (omega (arith, lt))
 taken_at (suc n) zero (y ∷ xs) x lt h = h
 taken_at (suc n) (suc p) (y ∷ xs) x lt h = taken_at n p xs x (omega (arith, lt)) h
 
--- an export with another description
+-- An export with a changed description.
 abbrev described : (ExportDesc → ExportDesc) → Export → Export
 described new e = record e { desc = new e.desc }
 
--- what is exported first under a name
+-- The first export of a name is found by the name, also where the descriptions are changed.
 first_named : (new : ExportDesc → ExportDesc) (es : List Export) (n : ℕ) (e : Export) → slice_get es n ≡ Some e → ((p : ℕ) (x : Export) → p < n → slice_get es p ≡ Some x → x.name ≡ e.name → ⊥) →
     export_named (map (described new) es) e.name ≡ Some (new e.desc)
 first_named new [] n e at others = cc
@@ -125,14 +126,14 @@ module _ (laws : Laws) (namespace : ℕ → List ℕ) (names : SplitNames) (m : 
   abbrev outside_named : TreeNamesOnly kept (outside laws namespace names m moved owns g)
   outside_named = named laws namespace names m moved owns g
 
-  -- no two exports have the same name
+  -- No two exports have the same name.
   exports_apart : (n : ℕ) (e : Export) → slice_get m.exports n ≡ Some e → (p : ℕ) (x : Export) → p < n → slice_get m.exports p ≡ Some x → x.name ≡ e.name → ⊥
   exports_apart n e at p x lt there same =
       let z = valid kind.Export n (slice_get_within m.exports n e at) in
       let is : z.0 ≡ e = same_Some _ _ (sym z.1 ∙ at) in
       z.3 (there_contains (map (λ x. x.name) (take n m.exports)) p z.0.name (map_at (λ x. x.name) (take n m.exports) p x (taken_at n p m.exports x lt there) ∙ ap Some (same ∙ ap (λ (e : Export). e.name) (sym is))))
 
-  -- the loader's view has the exports of the module, with their new indices
+  -- The view of the loader has the exports of the module, with their new indices.
   pub view_is : world.view ≡ map (λ e. (e.name, new_export_desc map_of e.desc)) m.exports
   view_is = all_chosen_are (λ e. option_map (λ d. (e.name, d)) (export_named world.primary.exports e.name)) (λ e. (e.name, new_export_desc map_of e.desc)) m.exports (λ n e at.
       ap (option_map (λ d. (e.name, d))) (ap (λ es. export_named es e.name) (keeps laws namespace names m moved owns g).exports
@@ -181,7 +182,7 @@ module _ (laws : Laws) (namespace : ℕ → List ℕ) (names : SplitNames) (m : 
             (record { part = 0; of = primary; is_part = refl; inst = j; is_inst = refl; place = length moved + place_left m moved n; definition = y; stands = left_func laws namespace names m moved owns g n x.0 x.1 h; address = omega (arith, f) })
             (subst (λ c. FuncsAt R c i j x.0 y) (sym e) (func_at laws namespace names m moved owns g env i j a b loaded n x.0 x.1))
 
-    -- of other spaces, where each definition keeps its place
+    -- The definitions of another index space keep their places.
     same_placed : {A : Type 0} (space : Space) → is_else space ≡ true → (definitions : Module → List A) (new : A → A) (more : List A) → ((t : Module) → defined_count space t ≡ length (definitions t)) → definitions primary ≡ map new (definitions m) ++ more →
         (correspond : ℕ → Inst → A → ℕ → Inst → A → Type 0) → ((x : ℕ) (d : A) → slice_get (definitions m) x ≡ Some d → correspond 0 i d 0 j (new d)) → (c d : ℕ) → R.of space c d → Partners env v w space definitions correspond c d
     same_placed space other definitions new more counts are correspond alike c d related =
@@ -214,7 +215,8 @@ module _ (laws : Laws) (namespace : ℕ → List ℕ) (names : SplitNames) (m : 
     abbrev SecondElem : PlacedSegment ElemSeg → Type 0
     SecondElem y = ElemAlone (HasNoPartner R) env w y y.segment.mode
 
-    -- that of the slots is in bounds of the slot table, and nothing else is there
+    -- The segment of the slots fits in the slot table, and no other segment is copied to this
+    -- table.
     abbrev slots : ElemSeg
     slots = new_elem map_of (slot_segment (slot_table m) 0 (in_slots m (length moved)))
 

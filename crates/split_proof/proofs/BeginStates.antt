@@ -1,4 +1,4 @@
--- Where neither traps, a module and its split stand at the same place after their first steps.
+-- The states of a module and its split correspond after their first steps, where neither traps.
 use Rattle.base_lists.proofs.Common.{◌≡◌, ◌∙◌, ap, sym, subst, refl, ℕ, List, [], length, Option, Some, None, false, cond, ◌∷◌, ◌+◌, ◌<◌, option_and_then, slice_get, slice_get_within, opt_both}
 use Rattle.wasm_tree_spec.specs.Prelude.{Module, Functions}
 use Rattle.wasm_meaning.specs.Prelude.{Inst, Opening, Store, Environment, LoaderRun, LoaderWorld, begun_under, fresh_loader, store_under, tick_loader, Added, Closed, InstanceTrapped, Move, Pending, Run, Out, began, fresh_run, tick, Begun, alone, instantiate, own_count}

@@ -1,4 +1,4 @@
--- A split module begins under its loader as the module does alone.
+-- The instantiation of a split module under its loader compared with that of the module alone.
 use Rattle.base_lists.proofs.Common.{◌≡◌, ◌∙◌, ap, sym, subst, refl, ℕ, suc, ◌+◌, ◌-◌, ◌<◌, ◌≤◌, ◌⊎◌, inl, inr, List, [], ◌∷◌, ◌++◌, drop, length, Option, Some, None, Bool, true, false, arith, slice_get, same_Some, and_then_is, append_at_left, append_right, drop_at, slice_get_there}
 use Rattle.base_lists.specs.Options.{◌>>=◌}
 use Rattle.wasm_tree_spec.specs.Prelude.{Functions, Module}
@@ -27,7 +27,7 @@ pub slots_many : (namespace : ℕ → List ℕ) (m : Module) (n : ℕ) (fs : Lis
 slots_many namespace m n [] = refl
 slots_many namespace m n (f ∷ fs) = ap suc (slots_many namespace m (suc n) fs)
 
--- elsewhere the functions are those that were there, where the environment's own are
+-- The placeholders replace the stubs in the store, and every other function stays.
 module _ (counted : PlaceholdersAreCounted) (env : Environment) (w : LoaderWorld) (z : Store) (own : (n : ℕ) (f : Func) → slice_get (own_funcs env) n ≡ Some f → slice_get z.funcs n ≡ Some f) where
   abbrev slots : List Func
   slots = placeholders_from 0 (placeholders_of w)
@@ -45,7 +45,7 @@ module _ (counted : PlaceholdersAreCounted) (env : Environment) (w : LoaderWorld
       let index : b ≡ length (own_funcs env) + (length slots + c) = omega (arith, back, many) in
       ap (slice_get (own_funcs env ++ (slots ++ rest))) index ∙ append_right (own_funcs env) (slots ++ rest) (length slots + c) ∙ append_right slots rest c ∙ drop_at z.funcs from c ∙ ap (slice_get z.funcs) back
 
-  -- what corresponds still does, where the placeholders have no partner
+  -- Related stores stay related with the placeholders, where these have no partner.
   with_slots : (R : Pairing) (s : Store) → ((a b : ℕ) → R.of Functions a b → (b < own_count Functions env) ⊎ (own_count Functions env + length (placeholders_of w) ≤ b)) → StoreRel R s z → StoreRel R s (with_placeholders env w z)
   with_slots R s free like = record {
     types = λ {a} {b} r. rw (elsewhere b (free a b r)) (like.types r);
@@ -67,7 +67,8 @@ begun_store env w a c h = by (all_there (λ v. address_in a.inst v.1 >>= λ x. S
 
 -- ---- what a loader begins as ----
 
--- its instance, and its functions: the environment's own, the placeholders, then what the primary module defines
+-- The instance of the primary module, and the functions of the store: the environment's own, the
+-- placeholders, and then the definitions of the primary module.
 pub record BeginsWith (env : Environment) (w : LoaderWorld) (c : Begun) : Type 0 where
   pub made : Added
   pub is_made : primary_added env w ≡ Some made
@@ -78,7 +79,7 @@ pub record BeginsWith (env : Environment) (w : LoaderWorld) (c : Begun) : Type 0
   pub are_defined : all_there (new_func made.inst) w.primary.funcs ≡ Some defined
   pub funcs : c.store.funcs ≡ (own_funcs env ++ placeholders_from 0 (placeholders_of w)) ++ defined
 
--- what the primary module adds to the store
+-- The instantiation of the primary module adds its definitions to the store.
 primary_adds : (env : Environment) (w : LoaderWorld) (i : Inst) (t : Store) → store_with (const_value (store_under env w).globals i) w.primary i ≡ Some t → AddsWith (const_value (store_under env w).globals i) w.primary i t
 primary_adds env w i t h = search arith
 
@@ -102,7 +103,7 @@ begins_with segments env w c h =
       funcs = ap (λ (s : Store). s.funcs) (sym (begun_store env w a.0 c a.2)) ∙ ap (λ (x : Added). x.filled.store.funcs) (sym made.2) ∙ segments (const_value (store_under env w).globals i) w.primary i (joined_stores (store_under env w) made.0);
     }
 
--- among them the environment's own
+-- The functions of the environment come first in the store.
 own_there : SegmentsKeepFunctions → (env : Environment) (w : LoaderWorld) (c : Begun) → begun_under env w ≡ Some c → (n : ℕ) (f : Func) → slice_get (own_funcs env) n ≡ Some f → slice_get c.store.funcs n ≡ Some f
 own_there segments env w c h n f at =
     let b = begins_with segments env w c h in

@@ -1,4 +1,5 @@
--- What replaces a block, a loop or an if where other code stands in place of calls: the same, with what replaces what it holds.
+-- A block, a loop or an if is replaced by one with the same type, in which the calls of its bodies
+-- are replaced.
 use Rattle.base_lists.proofs.Common.{◌≡◌, ◌∙◌, ℕ, List, [], ◌∷◌, ◌++◌, refl, ap, ap₂, map, flat_map}
 use Rattle.wasm_tree_spec.specs.Prelude.{BlockType, Instr, Row_of-Instr, items-the_row-Instr, items_shown-the_row-Instr-0, fold_out-Instr, map-Instr, out-Instr, Block, Block', Loop, Loop', If, If'}
 use Rattle.wasm_tree.specs.declared.instr.Instr.TheOpen.{Instr-F}

@@ -1,4 +1,5 @@
--- Bodies in which other code stands in place of calls of some functions, and then with other indices, stay well typed.
+-- Well-typed bodies stay well typed where calls of some functions are replaced by other code and
+-- then all indices are renumbered.
 use Rattle.base_lists.proofs.Common.{◌≡◌, subst, refl, ℕ, List, [], ◌∷◌, Bool, true, false, Some, slice_get, slice_index, length, list_any, and_then_is, replicate_at, the_one}
 use Rattle.base_lists.proofs.Bools.{left_false, right_false}
 use Rattle.base_lists.specs.Members.{is_among}
@@ -18,7 +19,7 @@ use Rattle.split_spec.specs.Prelude.{with_calls}
 use Rattle.split_proof.specs.Calls.{CallsAreReplaced, renumbered_codes}
 use Rattle.split_proof.proofs.Operands.{Met, all_wanted}
 
--- what the laws below say
+-- The laws that the lemmas of this file assume.
 pub record BodyLaws : Type 0 where
   pub inside : PassesInside
   pub any : AnyInside
@@ -26,7 +27,7 @@ pub record BodyLaws : Type 0 where
   pub typed : TypingIsKept
   pub replaced : CallsAreReplaced
 
--- an index of the set agrees with its entry
+-- A remap that fits two modules: each index of the set agrees with its entry.
 module _ (r : Remap) (kept : Indices) (m u : Module) (agree : TreesAgree r kept m u) (f : Func) (t : FuncType) where
   pub entry_agrees : (space : Space) (called : Bool) (i : ℕ) → kept space i ≡ true → OperandAgrees r (body_context m f t) (any_named (body_context u f t)) space called i
   entry_agrees Types called = agree.types
@@ -39,7 +40,7 @@ module _ (r : Remap) (kept : Indices) (m u : Module) (agree : TreesAgree r kept 
   entry_agrees DataSegments called = agree.datas
 
 module _ (laws : BodyLaws) (r : Remap) (m u : Module) (listed : List ℕ) (code : ℕ → List Instr) where
-  -- what stands in place of a call of a function on the list has its type
+  -- The code that replaces a call of a function on the list has the type of the call.
   abbrev pub CodeIsTyped : Type 0
   CodeIsTyped =
       (f ty : ℕ) (t : FuncType) → is_among listed f ≡ true → slice_get (funcs_of m) f ≡ Some ty → slice_get m.types ty ≡ Some t →
@@ -52,7 +53,8 @@ module _ (laws : BodyLaws) (r : Remap) (m u : Module) (listed : List ℕ) (code 
     abbrev new : Context
     new = any_named (body_context u f t)
 
-    -- what is met agrees, but for a call of a function on the list
+    -- Each operand that passes the test agrees with its entry, except in a call of a function on
+    -- the list.
     abbrev pub MetAgrees : Type 0
     MetAgrees = (o : Operand) → met o ≡ true → is_opaque_call listed o ≡ false → OperandAgrees r old new o.space o.called o.index
 

@@ -1,4 +1,4 @@
--- A u32 can count what a module of a split has, where none of its counts is above its limit.
+-- The counts of a module of a split are within u32 where none is above its limit.
 use Rattle.base_lists.proofs.Common.{◌≡◌, ◌∙◌, sym, subst, ℕ, ◌+◌, ◌-◌, ◌^◌, ◌<◌, List, [], ◌∷◌, map, length, Option, Some, None, slice_get, arith, length-append, length-map, slice_get_within, filter_map_most, numbers_index}
 use Rattle.wasm_tree_spec.specs.Prelude.{Func, Module, IsBounded, declared_count, local_count, param_count, func_of, table_of, memory_of, global_of, imported_funcs, imported_globals, imported_memories, imported_tables}
 use Rattle.module_limits.specs.Counts.{CountsAreWithin}
@@ -51,7 +51,6 @@ bounded_by_counts t w locals =
       locals = locals;
     }
 
--- a declarative segment adds no function
 with_declared_few : (t : Module) (fs : List ℕ) → FewLocals t → FewLocals (with_declared t fs)
 with_declared_few t [] h = h
 with_declared_few t (f ∷ fs) h = h

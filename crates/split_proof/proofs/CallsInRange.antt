@@ -1,4 +1,5 @@
--- Code in which other code stands in place of calls has its numbers that are no operands in range where the code and what stands in it have.
+-- The constants of code with replaced calls are in range where those of the code and of the
+-- replacements are.
 use Rattle.base_lists.proofs.Common.{◌≡◌, ◌∙◌, ap, ap₂, sym, refl, ℕ, suc, ◌+◌, ◌≤◌, ◌<◌, ◌^◌, List, [], ◌∷◌, length, Option, Some, None, Bool, true, ◌&&◌, list_all-map, map, arith, pos, and_from, lt-ltb, list_all-append, slice_get_within, left_true, right_true, place_is}
 use Rattle.wasm_tree_spec.specs.Prelude.{BlockType, ValType, Instr, fold_out-Instr, map-Instr, Row_of-Instr, items-the_row-Instr, end_of-Instr, more_of-Instr, Block, Block', Loop, Loop', If, If', Call, CallIndirect, I32Const, LocalGet, outs-Block, outs-Loop, outs-If, Module}
 use Rattle.wasm_tree.specs.declared.instr.Instr.{out-Instr}
@@ -82,7 +83,7 @@ gets_numbers : (n : ℕ) (ts : List ValType) → n + length ts ≤ 2 ^ 32 → al
 gets_numbers n [] few = refl
 gets_numbers n (t ∷ ts) few = and_from (numbers_in (LocalGet n)) (all_numbers_in (gets (suc n) ts)) (get_numbers n (omega (arith, few))) (gets_numbers (suc n) ts (omega (arith, few)))
 
--- a function has a slot below the count of those that move
+-- The slot of a function is below the number of moved functions.
 pub slot_below : (moved : List ℕ) (f slot : ℕ) → place_among moved f ≡ Some slot → slot < length moved
 slot_below moved f slot e =
     let p = place_is f moved 0 slot e in

@@ -1,4 +1,5 @@
--- How many imports the primary module of a split has, and how many functions both modules have at most.
+-- The number of imports of the primary module of a split, and bounds on the numbers of functions of
+-- both modules.
 use Rattle.base_lists.proofs.Common.{◌≡◌, ◌∙◌, ℕ, suc, ◌+◌, ◌≤◌, List, [], ◌∷◌, ◌++◌, drop, map, length, refl, ap, arith, length-append, length-map}
 use Rattle.base_kept.specs.Kept.{kept}
 use Rattle.base_kept.proofs.Laws.{kept_most}
@@ -19,7 +20,7 @@ placeholders_many : (namespace : ℕ → List ℕ) (m : Module) (slot : ℕ) (fs
 placeholders_many namespace m slot [] = refl
 placeholders_many namespace m slot (f ∷ fs) = ap suc (placeholders_many namespace m (suc slot) fs)
 
--- those of the module that is split, and a placeholder for each function that moves
+-- The primary module has the imports of the module, and a placeholder for each moved function.
 pub imports_many : (namespace : ℕ → List ℕ) (prefix : List ℕ) (m : Module) (moved : List ℕ) → length (primary_with namespace prefix m moved).imports ≡ length m.imports + length moved
 unfolding primary_with
 imports_many namespace prefix m moved =

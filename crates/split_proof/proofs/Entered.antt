@@ -1,4 +1,5 @@
--- Functions that are entered, in both stores, over related stacks; and what such a step leaves of where the runs stand.
+-- Related functions are entered in both runs over related stacks, and the states correspond after
+-- it.
 use Rattle.base_lists.proofs.Common.{◌≡◌, ◌∙◌, refl, ap, sym, ℕ, List, [], ◌∷◌, ◌+◌, ◌++◌, length, Some, None, Bool, slice_get, append_rel}
 use Rattle.wasm_tree_spec.specs.Prelude.{FuncType, ValType, Instr, Module, Functions}
 use Rattle.wasm_meaning.specs.Prelude.{Gives, bind, or_ill_typed, Code, Entry, Frame, Inst, Ran, Running, Store, Val, zeros, enter, enter_at, own_count, Environment, LoaderRun, LoaderWorld, Move, Run, Steps, made, tick, transition}
@@ -10,7 +11,7 @@ use Rattle.split_proof.specs.States.{Corresponds, FuncsComeFrom, SlotHolds, fill
 
 -- ---- frames ----
 
--- the frame of a defined function that is entered
+-- The frame of a defined function that is entered.
 abbrev pub frame_in : Inst → List Val → (locals : List ValType) → FuncType → List Instr → Frame
 frame_in i vs ls u c = record { inst = i; locals = vs ++ zeros ls; results = u.results; levels = record { values = []; code = c; gives = length u.results; takes = length u.results; back = [] } ∷ [] }
 
@@ -29,7 +30,8 @@ module _ {R : Pairing} {s t : Store} {u : FuncType} {a c : ℕ} (k : CodeAt R s 
 
 -- ---- stacks ----
 
--- what is on the stack below a function that is entered, or that it is reached through a trampoline
+-- The stacks below two entered functions are related, where the second function may be reached
+-- through a trampoline.
 pub data Below (R : Pairing) (u : FuncType) : List Entry → List Entry → Type 0 where
   direct : {es fs : List Entry} → WithPassing R es fs → Below R u es fs
   by_trampoline : {es fs : List Entry} (inst : Inst) (locals : List Val) → WithPassing R es fs → Below R u es (Running (passing inst locals u.results) ∷ fs)
@@ -45,7 +47,7 @@ module _ (env : Environment) (m : Module) (moved : List ℕ) (w : LoaderWorld) (
   abbrev R : Pairing
   R = split_pairing env m moved loaded
 
-  -- related code stays where the functions do
+  -- Related code stays related where both stores keep their functions.
   pub code_stays : {s z t y : Store} {u : FuncType} {a c : ℕ} → z.funcs ≡ s.funcs → y.funcs ≡ t.funcs → CodeAt R s t u a c → CodeAt R z y u a c
   code_stays {a = a} {c = c} e f k = record {
     first_inst = k.first_inst;
@@ -58,12 +60,13 @@ module _ (env : Environment) (m : Module) (moved : List ℕ) (w : LoaderWorld) (
     related = k.related;
   }
 
-  -- and so does what a slot holds
+  -- The function in a slot stays where both stores keep their functions.
   holds_stay : {s z t y : Store} {table : _} {slot func : ℕ} {b : Bool} → z.funcs ≡ s.funcs → y.funcs ≡ t.funcs → SlotHolds env m moved loaded s t table slot func b → SlotHolds env m moved loaded z y table slot func b
   holds_stay {slot = slot} e f (waits refers stands) = waits refers (ap (λ fs. slice_get fs (own_count Functions env + slot)) f ∙ stands)
   holds_stay e f (filled c refers code) = filled c refers (code_stays e f code)
 
-  -- so where functions stay, and the slot table, all functions stand
+  -- The relation of the functions and the slots of two stores stays where these keep their
+  -- functions and the slot table.
   pub funcs_stay : {s z : Store} {q p : LoaderRun} → (h : FuncsComeFrom env m moved w first second loaded s q) → z.funcs ≡ s.funcs → p.run.store.funcs ≡ q.run.store.funcs → slice_get p.run.store.tables (slot_table_address env m) ≡ slice_get q.run.store.tables (slot_table_address env m) →
       p.loaded ≡ q.loaded →
       FuncsComeFrom env m moved w first second loaded z p
@@ -77,7 +80,7 @@ module _ (env : Environment) (m : Module) (moved : List ℕ) (w : LoaderWorld) (
     pairs = λ a c is. let x = h.pairs a c is in (x.0, x.1, x.2, x.3, code_stays e f x.4);
   }
 
-  -- with other stacks the runs stand at the same place still
+  -- The states still correspond with other stacks that are related.
   pub stands_with : {r : Run} {q : LoaderRun} → Corresponds env m moved w first second loaded r q → (ms : List Move) (es fs : List Entry) → WithPassing R es fs →
       Corresponds env m moved w first second loaded (record r { moves = ms; entries = es }) (record q { run = record q.run { moves = ms; entries = fs } })
   stands_with h ms es fs e = record {
@@ -88,7 +91,7 @@ module _ (env : Environment) (m : Module) (moved : List ℕ) (w : LoaderWorld) (
     funcs = funcs_stay h.funcs refl refl refl refl;
   }
 
--- the first enters it in one step
+-- The first run enters the function in one step.
 pub first_enters : {R : Pairing} (r : Run) {t : Store} {u : FuncType} {a c : ℕ} (k : CodeAt R r.store t u a c) (ms : List Move) (vs : List Val) (es : List Entry) → transition r ≡ Steps (record r { moves = ms }) (enter_at r.store a vs es) →
     tick r ≡ (record r { moves = ms; entries = Running (first_frame k vs) ∷ es }, None)
 first_enters r {u = u} {a = a} k ms vs es h = ap made (h ∙ ap (Steps (record r { moves = ms })) (enters_code r.store a u k.first_inst k.locals k.first_code k.first vs es))

@@ -1,4 +1,5 @@
--- Both enter functions, the first one that moves and the second its trampoline: the steps of the trampoline, and a load if there is one, answer the step.
+-- A step in which the first run enters a moved function and the second its trampoline: the steps of
+-- the trampoline, with a load if needed, answer it.
 use Rattle.base_lists.proofs.Common.{◌≡◌, ◌∙◌, refl, sym, ap, subst, ℕ, zero, suc, ◌+◌, ◌≤◌, List, [], ◌∷◌, ◌++◌, length, nat_eq, Option, Some, None, Bool, true, false, arith, slice_get, unwrap_or, pos, IsTrue, list_any, option_map_or, same_Some, map_from, among_there}
 use Rattle.base_lists.specs.Options.{◌>>=◌}
 use Rattle.wasm_tree_spec.specs.Prelude.{Functions, FuncType, Module, type_of_func}
@@ -23,14 +24,14 @@ use Rattle.split_proof.proofs.Stuttering.{StutteringSteps, before, at, ran_is, R
 
 -- ---- functions that move ----
 
--- an address of one
+-- An address on the list is that of a moved function.
 pub listed_slot : (env : Environment) (m : Module) (moved : List ℕ) (a : ℕ) → IsTrue (list_any (nat_eq a) (moved_addresses env m moved)) → (p f : ℕ) × (slice_get moved p ≡ Some f) × (defined_address env m f ≡ a)
 listed_slot env m moved a h =
     let p = among_there (moved_addresses env m moved) a h in
     let f = map_from (defined_address env m) moved p.0 a p.1 in
     (p.0, f.0, f.1, f.2)
 
--- it has no more parameters than any
+-- A moved function has no more parameters than the maximum over the moved functions.
 params_few : (m : Module) (moved : List ℕ) (p f : ℕ) → slice_get moved p ≡ Some f → length (type_in m f).params ≤ most_params m moved
 params_few m [] p f at = absurd (let k = at in cc)
 params_few m (x ∷ moved) zero f at =
@@ -44,7 +45,7 @@ params_few m (x ∷ moved) zero f at =
     by (Some t) = refl
 params_few m (x ∷ moved) (suc p) f at = let l = params_few m moved p f at in omega (arith, l)
 
--- its type is that of the code that is related to it
+-- A function has the type of the code that is related to it.
 code_typed : {R : Pairing} {s t : Store} {u v : FuncType} {a c : ℕ} → CodeAt R s t u a c → type_at s a ≡ Some v → v ≡ u
 code_typed k h = same_Some _ _ (sym h ∙ ap (λ o. o >>= λ f. Some (type_of f)) k.first)
 
@@ -57,11 +58,11 @@ module _ (laws : SettleLaws) (answered : PlaceholdersAreAnswered) (tramp : Tramp
     abbrev u : FuncType
     u = type_in m f
 
-    -- the trampoline
+    -- The second function is the trampoline of the moved function.
     stands : slice_get q.run.store.funcs e.second ≡ Some (trampoline second u (type_index m f) (slot_table m) (pos p))
     stands = h.funcs.trampolines p f e.second is (subst (λ a. is_left_at env m moved a e.second ≡ true) (sym a_is) e.partners)
 
-    -- and its frame
+    -- The frame of the trampoline.
     abbrev entry : Entry
     entry = Running (frame_in second e.second_values [] u (gets 0 u.params ++ slot_call (type_index m f) (slot_table m) (pos p)))
 
@@ -74,7 +75,8 @@ module _ (laws : SettleLaws) (answered : PlaceholdersAreAnswered) (tramp : Tramp
     first_tick : tick_loader w q ≡ (record q { run = at moving q.run.store (entry ∷ e.second_below) }, None)
     first_tick = ran_is w q q.run moving q.run.store (entry ∷ e.second_below) (e.second_step ∙ ap (Steps moving) enters_it)
 
-    -- what is passed on to
+    -- The stack below the function that the trampoline calls: a frame that only passes the results
+    -- on.
     abbrev under : List Entry
     under = Running (passing second e.second_values u.results) ∷ e.second_below
 
@@ -96,7 +98,7 @@ module _ (laws : SettleLaws) (answered : PlaceholdersAreAnswered) (tramp : Tramp
     same_ran : {s t : Store} {es fs : List Entry} → Gives (Ran s es) ≡ Gives (Ran t fs) → (t ≡ s) × (fs ≡ es)
     same_ran e = (cc, cc)
 
-    -- the function is in its slot
+    -- The case in which the function is in its slot already.
     in_slot_already : (c : ℕ) → slice_get h.funcs.table.slots p ≡ Some (FuncRef (Some c)) → CodeAt (split_pairing env m moved loaded) r.store q.run.store u (defined_address env m f) c → StepAnswered env m moved w first second (most_params m moved) r q
     in_slot_already c refers k =
         let have = have_types (code_typed k typed) in
@@ -113,7 +115,7 @@ module _ (laws : SettleLaws) (answered : PlaceholdersAreAnswered) (tramp : Tramp
             (subst (λ fs. StutteringSteps (tick_loader w) (length u.params + 2) (record q { run = at moving q.run.store (entry ∷ e.second_below) }) (record q { run = at moving t fs })) same.1 silent)))
         by k (part n lt t fs silent is_it other) = absurd (other q.run.store (Running (second_frame k e.second_values) ∷ under) refl)
 
-    -- its placeholder is
+    -- The case in which the placeholder is still in the slot.
     loaded_then : (z : SlotIs env m moved w loaded r.store q h.funcs.table p f) (waiting : z.is_loaded ≡ false) → slice_get h.funcs.table.slots p ≡ Some (FuncRef (Some (own_count Functions env + p))) → slice_get q.run.store.funcs (own_count Functions env + p) ≡ Some (Placeholder p u) →
         StepAnswered env m moved w first second (most_params m moved) r q
     loaded_then z waiting refers there =

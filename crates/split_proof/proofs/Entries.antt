@@ -1,4 +1,5 @@
--- What the indices of the module name, and what their entries name in the primary module with stubs in place of its placeholders.
+-- The indices of the module and their entries in the primary module with stubs in place of its
+-- placeholders name related entities.
 use Rattle.base_lists.proofs.Common.{◌≡◌, ◌∙◌, ap, sym, subst, refl, ℕ, zero, suc, ◌+◌, ◌-◌, ◌<◌, ◌≤◌, ◌&&◌, ◌⊎◌, inl, inr, List, [], ◌∷◌, ◌++◌, map, length, drop, Option, Some, Bool, true, arith, option_and_then, slice_get, slice_index, IsTrue, cases_lt, length-append, length-map, map-append}
 use Rattle.base_lists.proofs.Common.{slice_get_within, same_Some, left_true, right_true, has_chosen, length-numbers, places_many, numbers_at, numbers_index, append_left, append_right, map_at, slice_get_there, and_from, get_rel, opt_at, then_rel, among_right, there_among}
 use Rattle.base_lists.specs.Places.{numbers}
@@ -43,7 +44,7 @@ use Rattle.split_proof.specs.Laws.{CanBeSplit}
 use Rattle.split_proof.proofs.Partners.{goes, entry_is, funcs_many, is_else, is_its_partner, is_left_there, left_marked, partner_is, place_left, shares_own}
 use Rattle.split_proof.proofs.Placeholders.{same}
 
--- what the laws below say
+-- The laws that the lemmas of this file assume.
 pub record Laws : Type 0 where
   pub bodies : BodyLaws
   pub items : ValidWhereItemsHold
@@ -71,7 +72,7 @@ module _ (laws : Laws) (namespace : ℕ → List ℕ) (names : SplitNames) (m : 
   abbrev pub types_moved : List ℕ
   types_moved = map (type_index m) moved
 
-  -- the primary module with stubs
+  -- The primary module with stubs in place of its placeholders.
   abbrev pub Q : Module
   Q = (stubbed split m.imports types_moved).primary
 
@@ -81,18 +82,19 @@ module _ (laws : Laws) (namespace : ℕ → List ℕ) (names : SplitNames) (m : 
   abbrev pub k : ℕ
   k = length (imported_funcs m.imports)
 
-  -- before its references are declared, and with its placeholders
+  -- The primary module before its references are declared, with its placeholders.
   abbrev pub plain : Module
   plain = spaces.u namespace names.export_prefix m holds moved g.can_move
 
   abbrev pub keeps : IsWithDeclared plain split.primary (declared_refs plain)
   keeps = same namespace names m moved owns g holds
 
-  -- an entry for each index that is there
+  -- The identity remap of the module, with an entry for each of its indices.
   abbrev pub old : Remap
   old = exact laws.entries m g.valid holds
 
-  -- the indices that are there and stay; of functions that move only those of which a trampoline is needed
+  -- The indices that stay in the primary module: all but those of moved functions without a
+  -- trampoline.
   abbrev pub stay : Indices
   stay space x = with_entry old space x && spaces.stays namespace names.export_prefix m holds moved g.can_move space x
 
@@ -116,7 +118,8 @@ module _ (laws : Laws) (namespace : ℕ → List ℕ) (names : SplitNames) (m : 
   pub datas_are : Q.datas ≡ map (new_data r) m.datas
   datas_are = keeps.datas
 
-  -- the segments of the module, then that of the slots, and perhaps one that declares references
+  -- The segments after those of the module: that of the slots, and perhaps one that declares
+  -- references.
   abbrev pub more_segments : List ElemSeg
   more_segments = new_elem r (slot_segment (slot_table m) 0 (in_slots m (length moved))) ∷ last_segments (declared_refs plain)
 
@@ -140,7 +143,7 @@ module _ (laws : Laws) (namespace : ℕ → List ℕ) (names : SplitNames) (m : 
       ap (λ f. Some (primary_func m moved (place_among moved first) first f)) is ∙ ap (λ n. Some (primary_func m moved (place_among moved n) n f)) e
   primary_there first (x ∷ fs) (suc p) f at = let e : suc first + p ≡ first + suc p = omega arith in primary_there (suc first) fs p f at ∙ ap (λ n. Some (primary_func m moved (place_among moved n) n f)) e
 
-  -- a function that is left stands at its place
+  -- A function that is left in the primary module is at its new place there.
   pub left_there : (n : ℕ) (f : tree.Func) → slice_get m.funcs n ≡ Some f → is_left m moved (k + n) ≡ true → slice_get split.primary.funcs (place_left m moved n) ≡ Some (new_func r (primary_func m moved (place_among moved (k + n)) (k + n) f))
   left_there n f at h =
       let marks = drop k (left_marks m moved) in
@@ -148,7 +151,7 @@ module _ (laws : Laws) (namespace : ℕ → List ℕ) (names : SplitNames) (m : 
       let moved_there = kept_at marks (primary_funcs m moved k m.funcs) n x (left_marked namespace names.export_prefix m holds moved g.can_move n (slice_get_within m.funcs n f at) h) (primary_there k m.funcs n f at) in
       ap (λ fs. slice_get fs (place_left m moved n)) keeps.funcs ∙ map_at (new_func r) (kept marks (primary_funcs m moved k m.funcs)) (place_left m moved n) x moved_there
 
-  -- behind the stubs
+  -- A function that is left in the module with stubs comes after these.
   pub left_func : (n : ℕ) (f : tree.Func) → slice_get m.funcs n ≡ Some f → is_left m moved (k + n) ≡ true → slice_get Q.funcs (length moved + place_left m moved n) ≡ Some (new_func r (primary_func m moved (place_among moved (k + n)) (k + n) f))
   left_func n f at h = ap (λ z. slice_get Q.funcs (z + place_left m moved n)) (sym stubs_many) ∙ append_right (map stub types_moved) split.primary.funcs (place_left m moved n) ∙ left_there n f at h
 
@@ -227,7 +230,7 @@ module _ (laws : Laws) (namespace : ℕ → List ℕ) (names : SplitNames) (m : 
     abbrev of : Space → ℕ → ℕ → Bool
     of = is_partner env m moved
 
-    -- with no opaque function
+    -- The relation of addresses at the beginning, before any function is loaded.
     abbrev pub P : Pairing
     P = passed of of []
 
@@ -244,7 +247,8 @@ module _ (laws : Laws) (namespace : ℕ → List ℕ) (names : SplitNames) (m : 
     its_partner = is_its_partner namespace names.export_prefix m holds moved g.can_move env
 
     module _ (i j : Inst) (a : IsInst env (one m) 0 m i) (b : IsInst env (one Q) 0 Q j) where
-      -- a space that grows, or stays, of which all that the module has is related to itself
+      -- An index space that grows or stays, in which each entity of the module is related to
+      -- itself.
       grown : (space : Space) (xs ys : List ℕ) → world.space env (one m) space 0 m ≡ Some xs → world.space env (one Q) space 0 Q ≡ Some ys → defined_count space m ≤ defined_count space Q → ((c : ℕ) → c < own_count space env + defined_count space m → P.of space c c) →
           (x : ℕ) → x < length (imports_of space m) + defined_count space m → OptRel (P.of space) (slice_get xs x) (slice_get ys x)
       grown space xs ys hx hy more related x lt =
@@ -259,7 +263,7 @@ module _ (laws : Laws) (namespace : ℕ → List ℕ) (names : SplitNames) (m : 
       segment_stays space xs ys count more hx hy few related x lt =
           opt_at (ap (λ l. slice_get l x) hx ∙ numbers_at 0 count x lt) (ap (λ l. slice_get l x) hy ∙ numbers_at 0 more x (omega (arith, lt, few))) (some (subst (λ y. P.of space y y) (let z : x ≡ 0 + x = omega arith in z) (related x lt)))
 
-      -- where the functions are that the module defines
+      -- The addresses of the defined functions of the module.
       pub defined_there : (n : ℕ) → n < length m.funcs → slice_get i.funcs (k + n) ≡ Some (O + n)
       defined_there n lt =
           let sx = space_at P env own m Functions i.funcs a.funcs in
@@ -306,7 +310,7 @@ module _ (laws : Laws) (namespace : ℕ → List ℕ) (names : SplitNames) (m : 
               subst (λ x. OptRel (P.of Functions) (slice_get i.funcs x) (slice_get j.funcs (slice_index r.funcs x))) e
               (left_named (x - k) (omega (arith, le, lt, all)) (ap (is_left m moved) e ∙ right_true (with_entry old Functions x) (is_left m moved x) h))
 
-      -- a space of which each index stays
+      -- An index space in which each index stays.
       stays_named : (space : Space) (xs ys : List ℕ) (size more : ℕ) → size ≤ more → ((x : ℕ) → x < size → OptRel (P.of space) (slice_get xs x) (slice_get ys x)) → (x : ℕ) → IsTrue (has (numbers 0 size) x) → OptRel (P.of space) (slice_get xs x) (slice_get ys (slice_index (numbers 0 more) x))
       stays_named space xs ys size more few each x h =
           let lt = below_has (numbers 0 size) size x (length-numbers 0 size) h in opt_at refl (ap (slice_get ys) (numbers_index more x (omega (arith, lt, few)))) (each x lt)

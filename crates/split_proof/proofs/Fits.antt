@@ -14,7 +14,8 @@ use Rattle.index_remap_proof.specs.Trees.{Covers}
 use Rattle.split_spec.specs.Prelude.{call_by_slot, slot_table, type_index, in_slots}
 use Rattle.split_proof.proofs.Spaces.{type_there}
 
--- a map that is as long as each index space has an entry for each index that a valid module names
+-- A remap that is as long as each index space has an entry for each index that a valid module
+-- names.
 abbrev pub EntriesAreThere : Type 0
 EntriesAreThere = (r : Remap) (t : Module) → IsValid t → Covers r t → IsTrue (fits_tree r t)
 
@@ -27,14 +28,14 @@ below_has xs n i many h = let lt = ltb-true i (length xs) h in omega (arith, man
 pub longer : (xs ys : List ℕ) (i : ℕ) → length xs ≤ length ys → has xs i ≡ true → has ys i ≡ true
 longer xs ys i le h = let lt = ltb-true i (length xs) h in lt-ltb i (length ys) (omega (arith, le, lt))
 
--- an import that may stand in the module, where all types have an entry
+-- The type index of an import of the module has an entry where all types have one.
 pub desc_fits : (r : Remap) (m : Module) → length r.types ≡ length m.types → (d : ImportDesc) → ImportHolds m d → fits_import_desc r d ≡ true
 desc_fits r m many (im.Func ty) h = has_below r.types (length m.types) ty many h
 desc_fits r m many (im.Table t) h = refl
 desc_fits r m many (im.Memory l) h = refl
 desc_fits r m many (im.Global g) h = refl
 
--- what is in the slots, where each has an entry
+-- The references in the slots have entries where each placeholder has one.
 pub slots_fit : (r : Remap) (m : Module) (count : ℕ) → length r.funcs ≡ length (funcs_of m) + count → list_all (fits_const r) (map const.Func (in_slots m count)) ≡ true
 slots_fit r m count all = list_all_from (fits_const r) (map const.Func (in_slots m count)) (λ n e at.
     let f = map_from const.Func (in_slots m count) n e at in
@@ -78,7 +79,7 @@ module _ (test : Operand → Bool) where
       list_all-append (operands_pass test) (gets 0 ts) (slot_call ty table slot) ∙ and_from (all_operands_pass test (gets 0 ts)) (all_operands_pass test (slot_call ty table slot)) (gets_pass 0 ts) (slot_call_passes ty table slot h k)
 
 module _ (entries_there : EntriesAreThere) (m : Module) (valid : IsValid m) (holds : ItemsHold m) where
-  -- a map with an entry for each index that is there, and for no other
+  -- A remap with an entry for each index of the module, and for no other.
   abbrev pub exact : Remap
   exact = record {
     types = numbers 0 (length m.types);
@@ -115,6 +116,6 @@ module _ (entries_there : EntriesAreThere) (m : Module) (valid : IsValid m) (hol
       let ty = slice_get_there (funcs_of m) f lt in
       subst (λ n. n < length m.types) (sym (slice_index_is (funcs_of m) f ty.0 ty.1)) (type_there m holds f ty.0 ty.1)
 
-  -- a map with all the types and the slot table
+  -- A call through a slot passes a test that all types and the slot table pass.
   pub through_slot_passes : (test : Operand → Bool) (f slot : ℕ) → f < length (funcs_of m) → ((ty : ℕ) → ty < length m.types → test (named Types ty) ≡ true) → test (named Tables (slot_table m)) ≡ true → all_operands_pass test (call_by_slot m (Some slot) f) ≡ true
   through_slot_passes test f slot lt types table = slot_call_passes test (type_index m f) (slot_table m) (pos slot) (types (type_index m f) (type_below f lt)) table

@@ -1,4 +1,5 @@
--- The instances of a module alone and of the primary module of its split name partners, index by index.
+-- The instances of a module alone and of the primary module of its split name partners, index by
+-- index.
 use Rattle.base_lists.proofs.Common.{◌≡◌, ◌∙◌, ap, sym, subst, refl, ℕ, suc, ◌<◌, List, [], ◌∷◌, length, Some, true, arith, slice_get, lt-ltb, same_Some, length-numbers, numbers_index, and_then_is, and_from}
 use Rattle.base_lists.specs.Places.{numbers}
 use Rattle.wasm_tree_spec.specs.Prelude.{Functions, Tables, Memories, Globals, Module, funcs_of, tables_of, memories_of, globals_of}
@@ -19,7 +20,7 @@ there : (n x : ℕ) → x < n → has (numbers 0 n) x ≡ true
 there n x lt = let e = length-numbers 0 n in lt-ltb x (length (numbers 0 n)) (omega (arith, lt, e))
 
 module _ (laws : Laws) (namespace : ℕ → List ℕ) (names : SplitNames) (m : Module) (moved : List ℕ) (owns : List (List ℕ)) (g : CanBeSplit namespace names m moved owns) (env : Environment) where
-  -- of the primary module with stubs
+  -- The instances are related where the second is that of the primary module with stubs.
   from_insts : (i j : Inst) → IsInst env (one m) 0 m i → IsInst env (one (Q laws namespace names m moved owns g)) 0 (Q laws namespace names m moved owns g) j → InstancesAreRelated env m moved i j
   from_insts i j a b = record {
     first_types = a.types;

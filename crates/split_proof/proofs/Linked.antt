@@ -1,4 +1,5 @@
--- An environment links a module exactly where it links the primary module of its split with stubs in place of the placeholders.
+-- An environment links a module exactly where it links the primary module of its split with stubs
+-- in place of the placeholders.
 use Rattle.base_lists.proofs.Common.{◌≡◌, ◌∙◌, add-zero, ap, ap₂, sym, subst, refl, ℕ, zero, suc, ◌+◌, ◌<◌, ◌⊎◌, inl, inr, List, [], ◌∷◌, ◌++◌, map, length, Option, Some, None, Bool, true, false, cond, arith, option_and_then, slice_get, slice_index, length-append, length-map, slice_get_within}
 use Rattle.base_lists.proofs.Common.{same_Some, length-numbers, numbers_at, and_then_is, all_there_at, all_there_from, all_there_length, is_some_there, places_many, append_at_left, append_from, map_at, map_from, slice_get_there, is_some, all_rel, left_there, right_there}
 use Rattle.wasm_tree_spec.specs.Prelude.{Space, Functions, Tables, Memories, Globals, FuncType, ConstExpr, ElemSeg, GlobalDef, Module, imported_funcs, funcs_of}
@@ -31,7 +32,7 @@ use Rattle.split_proof.proofs.Entries.{Laws, Q, consts, elems_are, entries, glob
 use Rattle.split_proof.proofs.Entries as entry_names
 use Rattle.split_proof.proofs.BeginRelated.{definitions, starts, stubs, view, worlds}
 
--- the index spaces of a module with the same types and imports are there
+-- The index spaces of an instance exist also for a module with the same types and imports.
 space_too : (env : Environment) (t u : Module) → u.types ≡ t.types → u.imports ≡ t.imports → (space : Space) (xs : List ℕ) → world.space env (one t) space 0 t ≡ Some xs → (ys : List ℕ) × (world.space env (one u) space 0 u ≡ Some ys)
 space_too env t u types imports space xs h =
     let denoted : (v : Module) (n : ℕ) → imported_external_value env (one v) (site n) ≡ external_value_in env v.types (slice_get v.imports n) = λ v n. grind arith in
@@ -39,7 +40,7 @@ space_too env t u types imports space xs h =
     let x = and_then_is (addresses env t.types t.imports space) _ xs (sym (is t) ∙ h) in
     (_, is u ∙ ap (λ o. option_and_then (λ l. Some (l ++ numbers (own_count space env) (defined_count space u))) o) (ap₂ (λ ts is. addresses env ts is space) types imports ∙ x.1))
 
--- and so is its instance
+-- An instance exists also for a module with the same types and imports.
 inst_too : (env : Environment) (t u : Module) → u.types ≡ t.types → u.imports ≡ t.imports → (is : List Inst) → insts_from env (one t) 0 (one t) ≡ Some is → (js : List Inst) × (insts_from env (one u) 0 (one u) ≡ Some js)
 inst_too env t u types imports is h =
     let i : (i : Inst) × (is ≡ i ∷ []) × IsInst env (one t) 0 t i = search (arith, h) in
@@ -136,7 +137,7 @@ module _ (laws : Laws) (namespace : ℕ → List ℕ) (names : SplitNames) (m : 
           elem_rel P (values_in env v 0) (values_in env w 0) {d = e} {e = new_elem map_of e}
           (elems_alike P map_of kept i j (entries laws namespace names m moved owns g env i j a b) (values_in env v 0) (values_in env w 0) (consts laws namespace names m moved owns g env i j a b) e (λ p c h. outside_named.items n p e c at h))
 
-      -- how many functions the primary module's instance names
+      -- The instance of the primary module has an address for each function of the module.
       funcs_space : length j.funcs ≡ length (funcs_of undeclared)
       funcs_space =
           let s : length j.funcs ≡ length (imports_of Functions primary) + length primary.funcs = search (arith, b.funcs, length-append, length-numbers, all_there_length) in

@@ -37,7 +37,7 @@ use Rattle.split_proof.proofs.Entries.{Laws, holds, old}
 use Rattle.split_proof.proofs.LoadExports.{among_all}
 use Rattle.split_proof.proofs.LoadNames.{own_can}
 
--- a pair for each of the functions that are loaded
+-- Each loaded function has a pair of its address in the module alone and its own address.
 pub pair_there : (env : Environment) (m : Module) (own : List ℕ) (from p f : ℕ) → slice_get own p ≡ Some f → Has (loaded_from env m own from) (defined_address env m f, from + p)
 pair_there env m [] from p f at = absurd (let k = at in cc)
 pair_there env m (g ∷ own) from zero f at =
@@ -67,7 +67,8 @@ module _ (laws : Laws) (namespace : ℕ → List ℕ) (names : SplitNames) (m : 
 
   -- ---- what the bodies name ----
 
-  -- the operand is that of a call that is replaced, or it is named from the primary module
+  -- The operand is that of a replaced call, or names an entity that is imported from the primary
+  -- module.
   abbrev goes_on : Operand → Bool
   goes_on o = is_opaque_call moved o || is_from_primary moved (defined_at m own) o.space o.index
 
@@ -107,7 +108,7 @@ module _ (laws : Laws) (namespace : ℕ → List ℕ) (names : SplitNames) (m : 
     below : (xs : ℕ) (x : ℕ) → nat_lt x (length (numbers 0 xs)) ≡ true → x < xs
     below xs x h = let l = ltb-true x (length (numbers 0 xs)) h in let e = length-numbers 0 xs in omega (arith, l, e)
 
-    -- what is named from the primary module names a partner
+    -- An index of an import from the primary module names a partner.
     entry_names : (space : Space) (x : ℕ) → names_segment (record { space = space; index = x; called = false }) ≡ false → has_entry exact_map (record { space = space; index = x; called = false }) ≡ true → is_from_primary moved (defined_at m own) space x ≡ true → EntryNames R second_map i k space x
     entry_names Types x n h w =
         ap (λ ts. slice_get ts x) (a.first_types ∙ sym b.types) ∙ ap (slice_get k.types) (sym (numbers_index (length m.types) x (below (length m.types) x h)))
@@ -166,7 +167,7 @@ module _ (laws : Laws) (namespace : ℕ → List ℕ) (names : SplitNames) (m : 
         rw (slot_of_address laws namespace names m moved owns g env slot f slot at e, at, type_there slot f at, slots_there, slot_stays slot (omega (arith, few, bound, within)), eq-eqb slot slot refl, self, eq-eqb (slot_table_address env m) (slot_table_address env m) refl) refl
 
     module _ (from : ℕ) (own_index : (p : ℕ) → p < length own → slice_get k.funcs (slice_index second_map.funcs (length (funcs_of m) + p)) ≡ Some (from + p)) (pairs : (p f : ℕ) → slice_get own p ≡ Some f → Has loaded (defined_address env m f, from + p)) where
-      -- the call of the module's own function
+      -- A direct call of a function of the secondary module itself.
       abbrev direct : ℕ → List Instr
       direct place = Call (slice_index second_map.funcs (length (funcs_of m) + place)) ∷ []
 

@@ -1,4 +1,4 @@
--- What the primary module exports under the names by which a secondary module imports.
+-- The exports of the primary module under the names of the imports of a secondary module.
 use Rattle.base_lists.proofs.Common.{◌≡◌, ◌∙◌, ap, sym, subst, refl, ℕ, zero, suc, ◌+◌, ◌-◌, ◌<◌, List, [], ◌∷◌, ◌++◌, map, take, length, Option, Some, Bool, true, false, cond, slice_get, slice_index, arith, list_any, filter_map-append, list_any-append, slice_get_within, same_Some, place_there}
 use Rattle.base_lists.proofs.Common.{numbers_at, map_at, Has, has_left, has_right, left_either, right_either, there_contains}
 use Rattle.base_lists.proofs.Same.{text_is, text_self}
@@ -16,7 +16,7 @@ use Rattle.split_proof.proofs.Spaces.{declared_keeps}
 
 -- ---- exports by name ----
 
--- the export of the name that stands first
+-- The first export of a name is found by the name.
 named_first : (es : List Export) (j : ℕ) (e : Export) → slice_get es j ≡ Some e → ((i : ℕ) (x : Export) → i < j → slice_get es i ≡ Some x → x.name ≡ e.name → ⊥) → export_named es e.name ≡ Some e.desc
 named_first [] j e at first = absurd (let k = at in cc)
 named_first (x ∷ es) zero e at first =
@@ -43,7 +43,8 @@ export_at m holds j e at =
 -- ---- what secondary modules import ----
 
 module _ (m : Module) (moved own : List ℕ) where
-  -- what the functions of one secondary module name, those of all together name
+  -- The entities that the functions of one secondary module name are among those that all moved
+  -- functions name.
   pub among_all : (before : ℕ) → HasSlots moved own before → (space : Space) (x : ℕ) → is_from_primary moved (defined_at m own) space x ≡ true → is_from_primary moved (defined_at m moved) space x ≡ true
   among_all before slots space x h =
       let test : Func → Bool = λ f. any_operand_passes (is_named_from_primary moved space x) f.body in
@@ -54,7 +55,7 @@ module _ (m : Module) (moved own : List ℕ) where
       ∙ right_either (list_any test (defined_at m slots.earlier)) (list_any test (defined_at m own ++ defined_at m slots.later))
       (list_any-append test (defined_at m own) (defined_at m slots.later) ∙ left_either (list_any test (defined_at m own)) (list_any test (defined_at m slots.later)) h)
 
-  -- its mark
+  -- An entity that a secondary module shares is marked.
   pub marked_at : (space : Space) (x : ℕ) → x < length (entities m space) → is_from_primary moved (defined_at m own) space x ≡ true → slice_get (marks_from_primary m moved own space) x ≡ Some true
   marked_at space x lt h =
       let e : 0 + x ≡ x = omega arith in
@@ -109,7 +110,8 @@ module _ (namespace : ℕ → List ℕ) (prefix : List ℕ) (m : Module) (moved 
   slots_exported = added_exported (record { name = slots_name prefix; desc = ex.Table (slot_table m) }) (has_right fs (ts ++ (ms ++ (gs ++ last))) _ (has_right ts (ms ++ (gs ++ last)) _ (has_right ms (gs ++ last) _ (has_right gs last _ (0, refl)))))
 
   module _ (own : List ℕ) (before : ℕ) (slots : HasSlots moved own before) where
-    -- what one secondary module imports
+    -- An entity that one secondary module imports is among those that the primary module exports
+    -- for all.
     imported : (space : Space) (x : ℕ) → x < length (entities m space) → is_from_primary moved (defined_at m own) space x ≡ true → Has (from_primary m moved moved space) x
     imported space x lt h = is_imported m moved moved space x lt (among_all m moved own before slots space x h)
 

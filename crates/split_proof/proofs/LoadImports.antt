@@ -1,4 +1,5 @@
--- Each import of a secondary module is there and matches, in each store in which the primary module's instance is typed.
+-- Each import of a secondary module denotes an external value that matches it, in each store in
+-- which the instance of the primary module is well typed.
 use Rattle.base_lists.proofs.Common.{◌≡◌, ◌∙◌, ap, ap₂, sym, subst, refl, ℕ, zero, suc, List, [], ◌∷◌, ◌++◌, map, length, Option, Some, true, false, ⊎_elim, slice_get, slice_index, unwrap_or, arith, option_map, and_from, slice_get_within, same_Some, chosen_from, numbers_index, option_map_is}
 use Rattle.base_lists.proofs.Common.{append_at_left, append_from, map_from, push_last, Has}
 use Rattle.base_lists.specs.Options.{◌>>=◌, all_there}
@@ -23,7 +24,7 @@ use Rattle.split_proof.proofs.LoadExports.{primary, primary_types, primary_keeps
 -- ---- imports that are there ----
 
 module _ (supply : Import → Option ExternalValue) (s : Store) (m : Module) where
-  -- it denotes something, which it matches
+  -- The import denotes an external value that matches it.
   abbrev pub Supplied : Import → Type 0
   Supplied x = (t : ExternalValue) × (supply x ≡ Some t) × (is_match s m x.desc t ≡ Some true)
 
@@ -34,12 +35,12 @@ module _ (supply : Import → Option ExternalValue) (s : Store) (m : Module) whe
       let r = all_supplied is (λ n. h (suc n)) in
       (t.0 ∷ r.0, rw (t.1, r.1) refl, and_from (unwrap_or (is_match s m x.desc t.0) false) (all_match s m is r.0) (ap (λ o. unwrap_or o false) t.2) r.2)
 
--- only the types of the module are looked at
+-- The match of an external value depends only on the types of the module.
 match_same : (s : Store) (m n : Module) → m.types ≡ n.types → (d : ImportDesc) (x : ExternalValue) → is_match s m d x ≡ is_match s n d x
 match_same s m n e (im.Func ty) (FuncAt a) = ap (λ ts. slice_get ts ty >>= λ t. type_at s a >>= λ u. Some (same_func_type t u)) e
 match_same s m n e _ _ = refl
 
--- what stands among such imports
+-- Each import from the primary module is one of an entity on the list.
 pub import_from : (namespace prefix : List ℕ) (m : Module) (space : Space) (is : List ℕ) (n : ℕ) (x : Import) → slice_get (imports_from_primary namespace prefix m space is) n ≡ Some x →
     (i : ℕ) × Has is i × (d : ImportDesc) × (slice_get (entities m space) i ≡ Some d) × (record { «module» = namespace; field = name_from_primary prefix space i; desc = d } ≡ x)
 import_from namespace prefix m space is n x at =

@@ -1,4 +1,5 @@
--- Where a secondary module is loaded stores stay related, and its functions are related to those that moved.
+-- The stores stay related where a secondary module is loaded, and the loaded functions are related
+-- to the moved ones.
 use Rattle.base_lists.proofs.Common.{◌≡◌, ◌∙◌, ap, sym, subst, refl, ℕ, ◌+◌, ◌-◌, List, [], ◌∷◌, ◌++◌, length, Option, Some, None, Bool, true, false, ◌&&◌, nat_eq, arith, slice_get, slice_index, option_and_then, IsTrue, list_any, eqb-true, ltb-true, list_any-append, same_Some, left_true, right_true}
 use Rattle.base_lists.proofs.Common.{numbers_index, and_then_is, append_at_left, append_right, slice_get_there, has_right, left_either}
 use Rattle.std.specs.Prelude.{unwrap_or}
@@ -21,11 +22,11 @@ use Rattle.split_proof.proofs.LoadNames.{own_can}
 
 -- ---- stores ----
 
--- what is related is so still, where the second stays
+-- Two optional values stay related where the second keeps its value.
 still : {A B : Type 0} {P : A → B → Type 0} {o : Option A} {p q : Option B} → ((b : B) → p ≡ Some b → q ≡ Some b) → BothRel P o p → BothRel P o q
 still {P = P} h (both {a = a} {b = b} r) = subst (BothRel P (Some a)) (sym (h b refl)) (both r)
 
--- no address is a partner of the slot table's
+-- No address is a partner of the address of the slot table.
 pub slot_table_alone : (env : Environment) (m : Module) (moved : List ℕ) (a : ℕ) → IsTrue (is_partner env m moved Tables a (slot_table_address env m)) → ⊥
 slot_table_alone env m moved a h =
     let e = eqb-true a (slot_table_address env m) (left_true _ _ h) in
@@ -53,7 +54,7 @@ module _ (env : Environment) (m : Module) (moved : List ℕ) (loaded : List (ℕ
 
 -- ---- more code ----
 
--- whether a pair is among those that are loaded
+-- The pair of addresses is among those of the loaded functions.
 abbrev is_loaded_at : ℕ → List (ℕ × ℕ) → ℕ → Bool
 is_loaded_at a loaded c = list_any (λ p. nat_eq p.0 a && nat_eq p.1 c) loaded
 
@@ -64,7 +65,7 @@ more_loaded loaded more j a n h = by (slice_get j.funcs n) h
     by None h = h
     by (Some c) h = list_any-append (λ p. nat_eq p.0 a && nat_eq p.1 c) loaded more ∙ left_either (is_loaded_at a loaded c) (is_loaded_at a more c) h
 
--- with more functions loaded, what may stand in place of a call may stand there still
+-- The code that may replace a call may still replace it after more functions are loaded.
 pub allows_more : (env : Environment) (m : Module) (moved : List ℕ) (loaded more : List (ℕ × ℕ)) → Allows (may_stand env m moved loaded) (may_stand env m moved (loaded ++ more))
 allows_more env m moved loaded more j a (I32Const slot ∷ (CallIndirect ty table ∷ [])) h = h
 allows_more env m moved loaded more j a (Call n ∷ []) h = more_loaded loaded more j a n h

@@ -1,4 +1,5 @@
--- A secondary module links and traps nowhere, in each store in which the primary module's instance is typed, and what it leaves.
+-- A secondary module links and does not trap in each store in which the instance of the primary
+-- module is well typed; and the store after its instantiation.
 use Rattle.base_lists.proofs.Common.{◌≡◌, ◌∙◌, ap, sym, refl, ℕ, zero, suc, ◌+◌, ◌^◌, ◌<◌, ◌≤◌, List, [], ◌∷◌, ◌++◌, map, length, Option, Some, None, Bool, true, false, cond, nat_eq, slice_get, slice_index, arith, pos, nat_le, nat_lt, eqb-true, and_parts, leb-true, ltb-true, length-append}
 use Rattle.base_lists.proofs.Common.{length-map, slice_get_within, same_Some, length-numbers, numbers_index, and_then_is, all_there_from, append_at_left, append_right, map_at, slice_get_there, overwrite_fits}
 use Rattle.std.proofs.Common.{eq-eqb}
@@ -43,7 +44,7 @@ module _ (globals : List Global) (j : Inst) where
   refer_func : (f a : ℕ) → slice_get j.funcs f ≡ Some a → refer (const.Func f) ≡ Some (FuncRef (Some a))
   refer_func f a h = rw h refl
 
-  -- to functions whose entries are there one after the other
+  -- The references of a segment to functions with consecutive addresses.
   in_a_row : (map_of : Remap) (from to count : ℕ) → ((p : ℕ) → p < count → slice_get j.funcs (slice_index map_of.funcs (from + p)) ≡ Some (to + p)) → all_there refer (map (new_const map_of) (map const.Func (numbers from count))) ≡ Some (references to count)
   in_a_row map_of from to zero h = refl
   in_a_row map_of from to (suc count) h =
@@ -54,7 +55,7 @@ module _ (globals : List Global) (j : Inst) where
       ap (λ n. slice_get j.funcs (slice_index map_of.funcs n)) g ∙ h (suc p) (omega (arith, lt)) ∙ ap Some k) in
       rw (refer_func (slice_index map_of.funcs from) to here, rest) refl
 
-  -- to functions that are there
+  -- A segment of references to functions of the instance has values.
   there : (fs : List ℕ) → ((n f : ℕ) → slice_get fs n ≡ Some f → f < length j.funcs) → (xs : List RefVal) × (all_there refer (map const.Func fs) ≡ Some xs)
   there [] h = ([], refl)
   there (f ∷ fs) h =
@@ -66,7 +67,7 @@ module _ (globals : List Global) (j : Inst) where
   last_there [] h = ([], refl)
   last_there (f ∷ fs) h = let r = there (f ∷ fs) h in (new_elem elem.Declarative r.0 ∷ [], rw r.1 refl)
 
-  -- the segment that declares them does nothing
+  -- The segment that declares references leaves the store unchanged.
   last_quiet : (fs ns : List ℕ) (s : Store) → one_by_one (λ s task. run_elem_with value s task task.segment.mode) s (segments_in 0 j ns (last_segments fs)) ≡ record { store = s; trapped = false }
   last_quiet [] [] s = refl
   last_quiet [] (n ∷ ns) s = refl
@@ -115,7 +116,7 @@ module _ (namespace : ℕ → List ℕ) (names : SplitNames) (m : Module) (holds
   abbrev refs : List ℕ
   refs = declared_refs tree_of
 
-  -- the segment of its slots
+  -- The segment that fills the slots of the secondary module.
   abbrev filling : ElemSeg
   filling = renumbered.new_elem second_map (slot_segment (slot_table m) before (in_slots m (length own)))
 
@@ -177,7 +178,7 @@ module _ (namespace : ℕ → List ℕ) (names : SplitNames) (m : Module) (holds
   abbrev table_index : ℕ
   table_index = slice_index second_map.tables (slot_table m)
 
-  -- the slot table, which has room
+  -- The slot table has room for all slots.
   slots_are : (a : ℕ) × (u : Table) × (slice_get i.tables (slot_table m) ≡ Some a) × (slice_get s.tables a ≡ Some u) × (length moved ≤ length u.slots)
   slots_are =
       let o = slots_offered namespace names m holds moved can primary_holds own before slots i s typed in
@@ -263,7 +264,7 @@ module _ (namespace : ℕ → List ℕ) (names : SplitNames) (m : Module) (holds
   same_address : (a b : ℕ) → nat_eq a b ≡ true → a ≡ b
   same_address a b h = eqb-true a b h
 
-  -- what is copied over a table: the references over the slots, and nothing elsewhere
+  -- The segments copy the references over the slots, and change no other table.
   copied : (b : ℕ) (xs : List RefVal) → all_over b (elem_copies value_of j second.elems) xs ≡ cond (nat_eq address b) (overwrite xs before (references (length s.funcs) (length own))) (Some xs)
   copied b xs =
       ap (λ es. all_over b (elem_copies value_of j es) xs) elems_are
@@ -276,7 +277,7 @@ module _ (namespace : ℕ → List ℕ) (names : SplitNames) (m : Module) (holds
       by None = refl
       by (Some ys) = last_copies s.globals j refs b ys
 
-  -- a table to which nothing is copied is as it was
+  -- A table to which nothing is copied stays unchanged.
   other_table : (b : ℕ) (u : Table) → slice_get s.tables b ≡ Some u → (slice_get i.tables (slot_table m) ≡ Some b → ⊥) → slice_get after.tables b ≡ Some u
   other_table b u at apart = by (nat_eq address b) refl
     where

@@ -1,4 +1,5 @@
--- The indices of a secondary module's instance name what the primary module's instance has, and its own functions.
+-- The indices of the instance of a secondary module name entities of the instance of the primary
+-- module, and its own functions.
 use Rattle.base_lists.proofs.Common.{◌≡◌, ◌∙◌, ap, ap₂, sym, refl, ℕ, zero, suc, ◌+◌, ◌<◌, List, [], ◌∷◌, ◌++◌, map, length, Option, Some, None, Bool, true, false, slice_get, slice_index, arith, option_map, cons_option, length-append, length-map, filter_map-append, same_Some, every_at}
 use Rattle.base_lists.proofs.Common.{length-numbers, numbers_at, numbers_index, and_then_is, append_at_left, append_right, slice_get_there, all_counted, index_left, index_right}
 use Rattle.base_lists.proofs.Filtered.{all_chosen}
@@ -31,7 +32,7 @@ use Rattle.split_proof.proofs.LoadImports.{first, func_offered, table_offered, m
 
 -- ---- lists ----
 
--- a mark's place among the marks
+-- The place of a marked element among the marked ones.
 place_at : (bs : List Bool) (n x : ℕ) → slice_get bs x ≡ Some true → slice_get (places (λ b. b) bs n) (kept_before bs x) ≡ Some (n + x)
 place_at [] n x h = absurd (let k = h in cc)
 place_at (true ∷ bs) n zero h = ap Some (omega arith)
@@ -47,7 +48,7 @@ chosen_mapped : {A B : Type 0} (g : A → Option B) (f : A → A) → ((x : A) �
 chosen_mapped g f same [] = refl
 chosen_mapped g f same (x ∷ xs) = ap₂ cons_option (same x) (chosen_mapped g f same xs)
 
--- each of the functions of one secondary module can move
+-- The functions of one secondary module can move.
 pub own_can : (m : Module) (moved own : List ℕ) (before : ℕ) → HasSlots moved own before → CanMove m moved → CanMove m own
 own_can m moved own before slots can =
     every_from (λ func. (is_defined m func ≡ true) × (body_uses_segment m func ≡ false)) own (λ n f at.
@@ -56,7 +57,7 @@ own_can m moved own before slots can =
 
 -- ---- addresses of imports ----
 
--- of what the imports denote, those of one kind
+-- The addresses of one kind among the external values that the imports denote.
 addresses_are : (supply : Import → Option ExternalValue) (k : Space) (is : List Import) (things : List ExternalValue) → all_there supply is ≡ Some things → addresses_of k things ≡ filter_map (λ x. supply x >>= address_of k) is
 addresses_are supply k [] things h = ap (addresses_of k) (sym (same_Some _ _ h))
 addresses_are supply k (x ∷ is) things h =
@@ -104,7 +105,7 @@ module _ (namespace : ℕ → List ℕ) (names : SplitNames) (m : Module) (holds
   abbrev at_kind : Space → Import → Option ℕ
   at_kind k x = given x >>= address_of k
 
-  -- what the primary's instance has at the index of an entity
+  -- The address that the instance of the primary module has for an index of the module.
   abbrev func_there : ℕ → Option ℕ
   func_there x = slice_get i.funcs (slice_index first_map.funcs x)
 
@@ -151,7 +152,7 @@ module _ (namespace : ℕ → List ℕ) (names : SplitNames) (m : Module) (holds
   slots_part k = ap (λ e. (e >>= (address_in i)) >>= address_of k) (slots_exported namespace names.export_prefix m moved primary_holds)
 
   module _ (things : List ExternalValue) (supplied : all_there given loads.imports ≡ Some things) where
-    -- its instance
+    -- The instance of the secondary module.
     abbrev pub j : Inst
     j = next_inst s loads things
 
@@ -195,7 +196,7 @@ module _ (namespace : ℕ → List ℕ) (names : SplitNames) (m : Module) (holds
 
     -- ---- one index ----
 
-    -- the place of a shared entity among those that are imported
+    -- The place of a shared entity among the imported ones.
     place_of : (space : Space) (x : ℕ) → x < length (entities m space) → is_from_primary moved (defined_at m own) space x ≡ true → slice_get (shared space) (kept_before (marks_from_primary m moved own space) x) ≡ Some x
     place_of space x lt h = let e : 0 + x ≡ x = omega arith in place_at (marks_from_primary m moved own space) 0 x (marked_at m moved own space x lt h) ∙ ap Some e
 
@@ -206,7 +207,7 @@ module _ (namespace : ℕ → List ℕ) (names : SplitNames) (m : Module) (holds
         let counted = length-numbers 0 (length (entities m space)) in
         index_left (new_places (marks_from_primary m moved own space)) more x (omega (arith, many, lt)) ∙ new_place (marks_from_primary m moved own space) x (omega (arith, marked, counted, lt))
 
-    -- where each shared entity is there, so is what its place names
+    -- A shared entity has an address where all shared entities of its index space have one.
     shared_at : (space : Space) (there : ℕ → Option ℕ) → ((n x : ℕ) → slice_get (shared space) n ≡ Some x → (a : ℕ) × (there x ≡ Some a)) → (x : ℕ) → x < length (entities m space) → is_from_primary moved (defined_at m own) space x ≡ true →
         slice_get (filter_map there (shared space)) (kept_before (marks_from_primary m moved own space) x) ≡ there x
     shared_at space there each x lt h = all_chosen there (shared space) each (kept_before (marks_from_primary m moved own space) x) x (place_of space x lt h)
@@ -248,11 +249,11 @@ module _ (namespace : ℕ → List ℕ) (names : SplitNames) (m : Module) (holds
         let a = and_then_is (global_there x) _ o.0 o.1 in
         (a.0, a.1)
 
-    -- the slot table is there
+    -- The instance of the primary module has an address for the slot table.
     pub slots_there : (a : ℕ) × (table_there (slot_table m) ≡ Some a)
     slots_there = let o = slots_offered namespace names m holds moved can primary_holds own before slots i s typed in let a = and_then_is (table_there (slot_table m)) _ o.0 o.1 in (a.0, a.1)
 
-    -- an index names what its place among the imports does
+    -- The new index of a shared entity names its address.
     goes : (space : Space) (there : ℕ → Option ℕ) → ((n x : ℕ) → slice_get (shared space) n ≡ Some x → (a : ℕ) × (there x ≡ Some a)) → (addresses more : List ℕ) → addresses ≡ filter_map there (shared space) ++ more → (rest entries : List ℕ) →
         (x : ℕ) → x < length (entities m space) → is_from_primary moved (defined_at m own) space x ≡ true → slice_get (addresses ++ rest) (slice_index (new_places (marks_from_primary m moved own space) ++ entries) x) ≡ there x
     goes space there each addresses more are rest entries x lt h =
@@ -296,7 +297,7 @@ module _ (namespace : ℕ → List ℕ) (names : SplitNames) (m : Module) (holds
 
     -- ---- its own functions ----
 
-    -- as many addresses as imports of functions
+    -- The imports of functions denote as many addresses.
     funcs_imported : length (addresses_of Functions things) ≡ length (imported_funcs tree.imports)
     funcs_imported =
         let a = ap length func_addresses in
@@ -308,7 +309,7 @@ module _ (namespace : ℕ → List ℕ) (names : SplitNames) (m : Module) (holds
         let d = ap length (second_spaces.imported_funcs_are names m holds moved own before) in
         omega (arith, a, b, c, d)
 
-    -- and as many functions as the module has
+    -- The instance has as many functions as the secondary module.
     pub funcs_counted : length j.funcs ≡ length (funcs_of loads)
     funcs_counted =
         let a = funcs_imported in

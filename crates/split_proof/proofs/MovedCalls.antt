@@ -1,4 +1,5 @@
--- A step of the first of two related runs begins no call of a function that is opaque, or both enter functions, or other code stands there, or both go wrong alike.
+-- A step of two related runs begins no call of an opaque function, or both enter functions, or the
+-- second has replacement code instead of the call, or both fail alike.
 use Rattle.base_lists.proofs.Common.{◌≡◌, ◌∙◌, refl, sym, ap, subst, ℕ, List, [], ◌∷◌, ◌++◌, Option, Some, None, Bool, true, false, ◌⊎◌, inl, inr, ⊎_elim, arith, slice_get, option_and_then, nat_eq, true≢false, list_any, then_rel, get_rel, length_rel, both_map}
 use Rattle.wasm_tree_spec.specs.Prelude.{Space, Functions, ValType, FuncType, Instr, Call}
 use Rattle.wasm_tree.specs.declared.instr.Instr.{out-Instr}
@@ -26,7 +27,7 @@ use Rattle.index_remap.proofs.Received.{look_rel, func_of_rel, received_all_rel}
 
 -- ---- what calls ----
 
--- the end of a level is no call
+-- The end of a level is no call.
 ends_call : (h : Body) (a : ℕ) (vs : List Val) (k : Body) → end_level h ≡ Gives (Calls a vs k) → ⊥
 ends_call h a vs k e = by (split_at h.gives h.values) e
   where
@@ -55,7 +56,7 @@ to_off R s t r = record {
   datas = r.datas;
 }
 
--- one call each, of related functions
+-- Each of the two steps is a call, and the called functions are related.
 record BothCall (R : Pairing) (i j : Inst) (o p : Outcome Act) : Type 0 where
   pub first : ℕ
   pub second : ℕ
@@ -126,7 +127,7 @@ module _ (popped_typed : PoppedValuesHaveTypes) (passed_typed : PassedValuesHave
       skip : ((x : Act) → act r.store f ≡ Gives x → NotOpaque R x) → TickSkips R r r.entries
       skip s = subst (TickSkips R r) (sym top) s
 
-      -- both call: the arguments are popped
+      -- The case in which both call: the arguments are popped.
       from_calls : BothCall R f.inst g.inst (act r.store f) (act q.store g) → ((a : ℕ) (vs : List Val) (k : Body) → act r.store f ≡ Gives (Calls a vs k) → R.listed a) → StepsCallMovedTogether R r q
       from_calls c listed = by (type_at r.store c.first) refl (type_at q.store c.second) refl (h.store.types c.partners)
         where
@@ -163,7 +164,7 @@ module _ (popped_typed : PoppedValuesHaveTypes) (passed_typed : PassedValuesHave
           by : (o : Option FuncType) → type_at r.store c.first ≡ o → (p : Option FuncType) → type_at q.store c.second ≡ p → BothRel (◌≡◌ {A = FuncType}) o p → StepsCallMovedTogether R r q
           by _ a _ b (both {a = u} e) = popped u a (b ∙ ap Some (sym e)) (pop_typed u.params c.values) (pop_typed u.params c.second_values) refl refl (pop_typed_rel R u.params c.related)
 
-      -- a step looks at nothing of the level but what stands in it
+      -- A step depends only on the code that remains in the level.
       called_as_code : (f : Frame) (l : Level) (ls : List Level) (c : List Instr) (n : ℕ) (es : List Entry) →
           bind (exec (Instr-F.Call n) (record { store = r.store; inst = f.inst }) (record { locals = f.locals; values = l.values; rest = c; gives = l.gives; takes = l.takes; back = l.back; outer = ls })) (perform r.store f es) ≡ step r.store (Running (at_code f l ls l.values (Call n ∷ c)) ∷ es)
       unfolding out-Instr denote.Hole.Carrier.out
@@ -177,7 +178,7 @@ module _ (popped_typed : PoppedValuesHaveTypes) (passed_typed : PassedValuesHave
           by (Gives (AsksGrow g i k b)) = refl
           by (Gives (Ends vs)) = refl
 
-      -- what the next instruction is
+      -- The cases of the next instruction.
       module _ (a : ℕ) (vs : List Val) (k : Body) (acts : act r.store f ≡ Gives (Calls a vs k)) (listed : R.listed a) where
         all_listed : (b : ℕ) (ws : List Val) (l : Body) → act r.store f ≡ Gives (Calls b ws l) → R.listed b
         all_listed b ws l e = subst R.listed (same (sym acts ∙ e)) listed
@@ -253,7 +254,7 @@ module _ (popped_typed : PoppedValuesHaveTypes) (passed_typed : PassedValuesHave
 
     -- ---- starts and moves ----
 
-    -- a function is called with what the embedder passes
+    -- A function is called with arguments from the embedder.
     module _ (es fs : List Entry) (xs : List Shown) (ms : List Move) (a b : ℕ) (listed : R.listed a) (n : R.of Functions a b) (stack : WithPassing R es fs) where
       abbrev first_run : Run
       first_run = record r { moves = ms }
@@ -280,7 +281,7 @@ module _ (popped_typed : PoppedValuesHaveTypes) (passed_typed : PassedValuesHave
               subst (λ t. Called (option_and_then (λ vs. Some (Steps first_run (enter_at r.store a vs es))) (received_all r.owned r.shown u.params xs)) (option_and_then (λ ws. Some (Steps second_run (enter_at q.store b ws fs))) (received_all q.owned q.shown t.params xs))) same
               (passed u e (received_all r.owned r.shown u.params xs) (received_all q.owned q.shown u.params xs) refl (received_all_rel R u.params xs h.owned h.shown))
 
-      -- where neither is called both come to the same
+      -- Where neither function is called, both runs have the same result.
       from_called : (f g : Option Transition → Transition) → ((t : Transition) → f (Some t) ≡ t) → ((t : Transition) → g (Some t) ≡ t) → transition r ≡ f (called first_run es xs a) → transition q ≡ g (called second_run fs xs b) →
           (transition r ≡ f None → transition q ≡ g None → NoCallBegins R r q) → (o p : Option Transition) → called first_run es xs a ≡ o → called second_run fs xs b ≡ p → Called o p → StepsCallMovedTogether R r q
       from_called f g ff gg e i bad _ _ x y neither = way.wrong (bad (e ∙ ap f x) (i ∙ ap g y))
@@ -304,7 +305,7 @@ module _ (popped_typed : PoppedValuesHaveTypes) (passed_typed : PassedValuesHave
             second_step = i ∙ ap g y ∙ gg _;
           })
 
-    -- a start that is not made closes the world
+    -- A start function that cannot be called closes the world.
     closes : (o p : Transition) → o ≡ Makes (record r { entries = []; phase = Closed }, Some InstanceTrapped) → p ≡ Makes (record q { entries = []; phase = Closed }, Some InstanceTrapped) → transition r ≡ o → transition q ≡ p → NoCallBegins R r q
     closes o p a b e f =
         let x = e ∙ a in
@@ -317,7 +318,7 @@ module _ (popped_typed : PoppedValuesHaveTypes) (passed_typed : PassedValuesHave
           plain = ap calls_placeholder y;
         }
 
-    -- a move that is not taken is left out
+    -- An invalid move of the embedder is skipped.
     left_out : (ms : List Move) → transition r ≡ Makes (record r { moves = ms }, Some BadMove) → transition q ≡ Makes (record q { moves = ms }, Some BadMove) → NoCallBegins R r q
     left_out ms x y = record {
       event = ap (λ t. (made t).1) x ∙ sym (ap (λ t. (made t).1) y);
@@ -327,7 +328,7 @@ module _ (popped_typed : PoppedValuesHaveTypes) (passed_typed : PassedValuesHave
       plain = ap calls_placeholder y;
     }
 
-    -- the next start
+    -- The next start function is called.
     from_start : (a b : ℕ) (starts second_starts : List ℕ) (es fs : List Entry) → r.entries ≡ Opening (a ∷ starts) ∷ es → q.entries ≡ Opening (b ∷ second_starts) ∷ fs → R.listed a → R.of Functions a b → ListRel (R.of Functions) starts second_starts → WithPassing R es fs → StepsCallMovedTogether R r q
     from_start a b starts second_starts es fs top second_top listed n rest stack = by (type_at r.store a) refl (type_at q.store b) refl (h.store.types n)
       where
@@ -356,7 +357,7 @@ module _ (popped_typed : PoppedValuesHaveTypes) (passed_typed : PassedValuesHave
         by : (o : Option FuncType) → type_at r.store a ≡ o → (p : Option FuncType) → type_at q.store b ≡ p → BothRel (◌≡◌ {A = FuncType}) o p → StepsCallMovedTogether R r q
         by _ e _ f (both {a = u} same) = typed u e (f ∙ ap Some (sym same)) u.results refl
 
-    -- the move that is due
+    -- The next move of the embedder.
     module _ (first_is : transition r ≡ next_move r r.moves) (second_is : transition q ≡ next_move q q.moves) (skip : NextMoveSkips R r.view r.shown r.moves → TickSkips R r r.entries)
         (first_moved : (m : Move) (ms : List Move) → at_entries (record r { moves = ms }) m r.entries ≡ moved (record r { moves = ms }) m) (second_moved : (m : Move) (ms : List Move) → at_entries (record q { moves = ms }) m q.entries ≡ moved (record q { moves = ms }) m) where
       from_func : (m : Move) (ms : List Move) (xs : List Shown) → r.moves ≡ m ∷ ms → (o p : Option ℕ) → moved (record r { moves = ms }) m ≡ option_and_then (called (record r { moves = ms }) (Mark ∷ r.entries) xs) o →
@@ -373,7 +374,7 @@ module _ (popped_typed : PoppedValuesHaveTypes) (passed_typed : PassedValuesHave
           same_address : {c d : ℕ} → Some c ≡ Some d → c ≡ d
           same_address e = cc
 
-      -- a look-up and then another
+      -- Two look-ups in sequence associate.
       then_then : {A B : Type 0} (f : A → Option ℕ) (g : ℕ → Option B) (o : Option A) → option_and_then (λ x. option_and_then g (f x)) o ≡ option_and_then g (option_and_then f o)
       then_then f g None = refl
       then_then f g (Some x) = refl

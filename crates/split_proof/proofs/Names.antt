@@ -2,7 +2,7 @@
 use Rattle.base_lists.proofs.Common.{◌≡◌, ◌∙◌, ap, sym, ℕ, zero, suc, ◌^◌, ◌<◌, ◌≤◌, List, [], ◌∷◌, ◌++◌, map, length, Bool, true, false, Some, ⊎_elim, slice_get, arith, decimal, decimal_injective, append_cancel_left, slice_get_within, append_from, map_from, place_back}
 use Rattle.base_lists.specs.Places.{places}
 
--- no two are the same
+-- No two elements are equal.
 abbrev pub Distinct : {A : Type 0} → List A → Type 0
 Distinct {A} xs = (i j : ℕ) (x : A) → i < j → slice_get xs i ≡ Some x → slice_get xs j ≡ Some x → ⊥
 
@@ -23,7 +23,7 @@ distinct_map f xs one d i j y lt a b =
     let same : z.0 ≡ x.0 = one j i z.0 x.0 z.1 x.1 (z.2 ∙ sym x.2) in
     d i j x.0 lt x.1 (z.1 ∙ ap Some same)
 
--- places ascend
+-- The places of marked elements are at least the number from which places are counted.
 places_from : (bs : List Bool) (n i p : ℕ) → slice_get (places (λ b. b) bs n) i ≡ Some p → n ≤ p
 places_from bs n i p h = let r = place_back (λ b. b) bs n i p h in let e = r.2 in omega (arith, e)
 
@@ -37,7 +37,7 @@ places_distinct (true ∷ bs) n zero (suc j) x lt a b =
     omega (arith, same, from)
 places_distinct (true ∷ bs) n (suc i) (suc j) x lt a b = places_distinct bs (suc n) i j x (omega (arith, lt)) a b
 
--- a name of this first letter behind the prefix
+-- The name has this letter after the prefix.
 abbrev pub HasLetter : List ℕ → ℕ → List ℕ → Type 0
 HasLetter prefix letter name = (rest : List ℕ) × (name ≡ prefix ++ (letter ∷ rest))
 

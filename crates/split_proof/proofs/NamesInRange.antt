@@ -1,4 +1,5 @@
--- The names that a split adds are UTF-8 where those that it is given are: letters and decimals are ASCII.
+-- The names that a split adds are UTF-8 where the given ones are, since letters and decimals are
+-- ASCII.
 use Rattle.base_lists.proofs.Common.{ℕ, ◌<◌, ◌^◌, List, [], ◌∷◌, ◌++◌, arith, IsUtf8, decimal, IsAscii, IsUtf8-from_ascii, IsAscii-cons, IsAscii-nil}
 use Rattle.std.proofs.lemmas.Fmt.{IsAscii-decimal}
 use Rattle.std.proofs.lemmas.Str.{IsAscii-append, IsUtf8-append}
@@ -27,7 +28,7 @@ name_in prefix h space index few =
     let ascii = IsAscii-append (kind_letter space) (decimal index) (letter_ascii space) (decimal_ascii index few) in
     IsUtf8-append prefix tail h (IsUtf8-from_ascii tail ascii)
 
--- `slots`
+-- The word `slots` is ASCII.
 slots_ascii : IsAscii (115 ∷ 108 ∷ 111 ∷ 116 ∷ 115 ∷ [])
 slots_ascii =
     let s = IsAscii-cons 115 [] (omega arith) IsAscii-nil in

@@ -1,10 +1,12 @@
--- What code names: each operand of it passes where each test that it passes is one that some operand of the code passes.
+-- The operands of code pass a test where every operand passes it for which each test that it passes
+-- is passed by some operand of the code.
 use Rattle.base_lists.proofs.Common.{◌≡◌, ◌∙◌, List, [], ◌∷◌, Bool, true, refl, list_all, list_any, and_from, left_either, right_either}
 use Rattle.base_lists.specs.Every.{Every}
 use Rattle.wasm_tree_spec.specs.Prelude.{Operand, Instr, out-Instr, all_operands_pass, any_operand_passes, held, operand_passes, operands_of, operands_pass, AnyInside, PassesInside}
 use Rattle.wasm_tree.proofs.OperandLaws.{by_held}
 
--- whatever passes a test of which such a one says so passes
+-- An operand passes the wanted test where each test that it passes is passed by some operand of the
+-- code.
 abbrev pub Met : (Operand → Bool) → ((Operand → Bool) → Bool) → Type 0
 Met wanted any = (o : Operand) → ((test : Operand → Bool) → test o ≡ true → any test ≡ true) → wanted o ≡ true
 

@@ -1,4 +1,4 @@
--- The slots of one secondary module, and what references over them leave of a table.
+-- The slots of one secondary module, and a table after references are copied over them.
 use Rattle.base_lists.proofs.Common.{◌≡◌, ◌∙◌, ap, sym, subst, refl, ℕ, zero, suc, ◌+◌, ◌-◌, ◌<◌, ◌≤◌, ◌⊎◌, inl, inr, List, [], ◌∷◌, ◌++◌, length, Some, false, cond, arith, append_assoc, slice_get, nat_lt, ⊎_elim, flat_map, lt-ltb, ltb-true, nat_tests, length-append, same_Some, cond_is, and_then_is}
 use Rattle.base_lists.proofs.Common.{append_left, append_right}
 use Rattle.base_lists.specs.Options.{◌>>=◌}
@@ -57,7 +57,7 @@ module _ (namespace : ℕ → List ℕ) (names : SplitNames) (m : Module) (moved
   abbrev all_from : ℕ → List (List ℕ) → List Secondary
   all_from = secondaries_for namespace names m moved
 
-  -- the module of a slot, counted from a base, and its slots
+  -- The secondary module of a slot, counted from a base, and its range of slots.
   pub record OwnsSlot (base : ℕ) (owns : List (List ℕ)) (slot j : ℕ) : Type 0 where
     pub own : List ℕ
     pub before : ℕ

@@ -17,7 +17,8 @@ rises_once xs up i j x a b = ⊎_elim (λ lt. absurd (apart i j x a b lt)) (λ l
 
 -- ---- the pair ----
 
--- no import has the namespace of the placeholders, and no export a name that is added
+-- A module can be split into a pair where no import has the namespace of the placeholders and no
+-- export an added name.
 pub pair_can_be_split : PairsCanBeSplit
 pair_can_be_split names m moved valid bounded can up namespace prefix = record {
   valid = valid;

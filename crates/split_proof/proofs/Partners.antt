@@ -1,4 +1,5 @@
--- The relation of addresses is one to one, and relates each of the environment's own entities to itself.
+-- The relation of addresses is one to one, and relates each of the environment's own entities to
+-- itself.
 use Rattle.base_lists.proofs.Common.{◌≡◌, ◌∙◌, ap, sym, refl, ℕ, ◌+◌, ◌-◌, ◌<◌, ◌≤◌, ◌&&◌, List, length, drop, Bool, true, false, cond, nat_eq, nat_lt, arith, slice_index, map, lt-ltb, ltb-true, eqb-true, nat_tests, length-append, length-map, left_true, right_true, and_from}
 use Rattle.std.proofs.Common.{eq-eqb}
 use Rattle.base_kept.specs.Kept.{is_marked, kept_before}
@@ -21,7 +22,7 @@ is_else _ = true
 
 -- ---- functions ----
 
--- where a function that is left goes among those that the primary module defines
+-- The place of a function that is left among the functions that the primary module defines.
 abbrev pub place_left : Module → (moved : List ℕ) → ℕ → ℕ
 place_left m moved n = kept_before (drop (length (imported_funcs m.imports)) (left_marks m moved)) n
 
@@ -39,7 +40,7 @@ module _ (namespace : ℕ → List ℕ) (prefix : List ℕ) (m : Module) (holds 
       let defined = length-map m.funcs (λ f. f.ty) in
       omega (arith, all, defined)
 
-  -- the entry of one that is defined
+  -- The entry of a defined function.
   pub entry_is : (n : ℕ) → n < length m.funcs → slice_index (primary_map m moved).funcs (k + n) ≡ length moved + (k + place_left m moved n)
   entry_is n lt = let all = funcs_many in spaces.defined_index namespace prefix m holds moved can n (omega (arith, lt, all))
 

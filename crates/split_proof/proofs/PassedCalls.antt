@@ -1,4 +1,4 @@
--- Code in which other code stands in place of calls passes a test of operands where the code and what stands in it do.
+-- Code with replaced calls passes a test of operands where the code and the replacements pass it.
 use Rattle.base_lists.proofs.Common.{◌≡◌, ◌∙◌, ap, sym, refl, ℕ, List, [], ◌∷◌, Bool, true, not, list_all, list_all-append, ◌&&◌, left_true, right_true, and_from}
 use Rattle.wasm_tree_spec.specs.Prelude.{Operand, BlockType, Instr, fold_out-Instr, Row_of-Instr, items-the_row-Instr, end_of-Instr, more_of-Instr, Block, Block', Loop, Loop', If, If', Call, all_operands_pass, block_operands, called, held, operands, operands_of, operands_pass, outs-Block, outs-Loop}
 use Rattle.wasm_tree_spec.specs.Prelude.{outs-If, PassesInside}
@@ -26,7 +26,7 @@ module _ (inside : PassesInside) (old new : Operand → Bool) (code : ℕ → Li
       (inside new i ∙ and_from (list_all new (operands_of i)) (all_operands_pass new (held (out-Instr i)))
       (each_passes (operands_of i) n (left_true (list_all old (operands_of i)) (all_operands_pass old (held (out-Instr i))) (sym (inside old i) ∙ h))) none) refl
 
-  -- an instruction passes where what its layer names and holds does
+  -- An instruction passes a test where its operands and the code in it pass.
   layer_passes : (test : Operand → Bool) (i : Instr) (l : Instr-F Instr) → out-Instr i ≡ l → operands_pass test i ≡ list_all test (operands l) && all_operands_pass test (held l)
   layer_passes test i l is = inside test i ∙ ap (λ l. list_all test (operands l) && all_operands_pass test (held l)) is
 

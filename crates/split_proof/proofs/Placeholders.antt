@@ -1,4 +1,5 @@
--- The primary module of a split imports its placeholders behind all that the module imports, in the order of their slots.
+-- The primary module of a split imports its placeholders after the imports of the module, in the
+-- order of their slots.
 use Rattle.base_lists.proofs.Common.{◌≡◌, ◌≢◌, ◌∙◌, ap, sym, subst, refl, ℕ, zero, suc, ◌+◌, ◌^◌, ◌<◌, ◌≤◌, List, [], ◌∷◌, ◌++◌, length, map, Some, None, Bool, true, false, cond, nat_eq, arith, true≢false, ⊎_elim, slice_get, slice_index, unwrap_or, option_and_then, decimal, pos, flat_map, bytes_eq}
 use Rattle.base_lists.proofs.Common.{decimal_injective, slice_get_within, bytes_eq-Decides, cond_is, left_true, right_true, length-numbers, numbers_at, pigeons, slice_get_there, slice_index_is, and_from, cases_Bool, same_number}
 use Rattle.base_lists.proofs.Same.{text_is, text_self}
@@ -23,12 +24,12 @@ use Rattle.split_proof.specs.Laws.{CanBeSplit}
 
 -- ---- lists ----
 
--- a slot is a number of 32 bits
+-- A slot is a number of 32 bits.
 pub slot_stays : (slot : ℕ) → slot < 2 ^ 32 → wrapped 32 (pos slot) ≡ slot
 unfolding wrapped
 slot_stays slot lt = grind (arith, lt)
 
--- where none passes, each fails
+-- Where the search for an element that passes a test finds none, each element fails it.
 none_passes : {A : Type 0} (test : A → Bool) (xs : List A) (from : ℕ) → first_place test xs from ≡ None → (n : ℕ) (x : A) → slice_get xs n ≡ Some x → test x ≡ false
 none_passes test [] from h n x at = cc
 none_passes {A} test (y ∷ ys) from h n x at =
@@ -41,7 +42,7 @@ none_passes {A} test (y ∷ ys) from h n x at =
 -- ---- pairs ----
 
 module _ (namespace : ℕ → List ℕ) where
-  -- the name of the placeholder of a slot
+  -- The two names of the placeholder of a slot.
   abbrev pair_at : ℕ → Pair
   pair_at slot = (namespace slot, decimal slot)
 
@@ -60,7 +61,7 @@ module _ (namespace : ℕ → List ℕ) where
     abbrev from_slot : ℕ → List ℕ → List (Pair × FuncType)
     from_slot = placeholders_for namespace m
 
-    -- the placeholder of a slot is found by its name
+    -- The placeholder of a slot is found by its names.
     slot_there : (s t : ℕ) (fs : List ℕ) → s ≤ t → t < s + length fs → s + length fs < 2 ^ 64 → first_place (λ p. same_pair (pair_at t) p.0) (from_slot s fs) s ≡ Some t
     slot_there s t [] from to few = absurd (omega (arith, from, to))
     slot_there s t (f ∷ fs) from to few =
@@ -72,7 +73,7 @@ module _ (namespace : ℕ → List ℕ) where
         ∙ slot_there (suc s) t fs (omega (arith, from, other)) (omega (arith, to)) (omega (arith, few)))
         (cases_Bool (nat_eq t s))
 
-    -- and no other import's name is one of a placeholder
+    -- The names of another import are those of no placeholder.
     no_slot : (pair : Pair) (s : ℕ) (fs : List ℕ) → ((t : ℕ) → s ≤ t → t < s + length fs → same_pair pair (pair_at t) ≡ false) → first_place (λ p. same_pair pair p.0) (from_slot s fs) s ≡ None
     no_slot pair s [] h = refl
     no_slot pair s (f ∷ fs) h =
@@ -82,7 +83,7 @@ module _ (namespace : ℕ → List ℕ) where
     joined_slots s [] ys = let e : s ≡ s + 0 = omega arith in ap (λ n. from_slot n ys) e
     joined_slots s (x ∷ xs) ys = let e : suc s + length xs ≡ s + suc (length xs) = omega arith in ap (λ ps. (pair_at s, type_in m x) ∷ ps) (joined_slots (suc s) xs ys ∙ ap (λ n. from_slot (suc s) xs ++ from_slot n ys) e)
 
-    -- all that the secondary modules have, together
+    -- The slots of all secondary modules together are those of all moved functions.
     pub all_slots : (names : SplitNames) (moved : List ℕ) (before : ℕ) (owns : List (List ℕ)) → flat (λ s. s.placeholders) (secondaries_for namespace names m moved before owns) ≡ from_slot before (flat_map (λ own. own) owns)
     all_slots names moved before [] = refl
     all_slots names moved before (own ∷ owns) =
@@ -104,7 +105,7 @@ module _ (namespace : ℕ → List ℕ) (names : SplitNames) (m : Module) (moved
   pub placeholders_are : placeholders_of w ≡ placeholders_for namespace m 0 moved
   placeholders_are = all_slots namespace m names moved 0 owns ∙ ap (placeholders_for namespace m 0) g.lists
 
-  -- none moves twice, so that no more move than there are
+  -- No function moves twice, so there are no more moved functions than functions.
   pub moved_few : length moved ≤ length (funcs_of m)
   moved_few =
       let all = numbers 0 (length (funcs_of m)) in
@@ -124,7 +125,7 @@ module _ (namespace : ℕ → List ℕ) (names : SplitNames) (m : Module) (moved
   pub few : length moved < 2 ^ 64
   few = let a = moved_few in let b = g.bounded.funcs in omega (arith, a, b)
 
-  -- the type of one that moves
+  -- The type of a moved function.
   pub moved_typed : (p f : ℕ) → slice_get moved p ≡ Some f → slice_get m.types (type_index m f) ≡ Some (type_in m f)
   moved_typed p f at =
       let h = spaces.moved_moves namespace names.export_prefix m holds moved g.can_move p f at in

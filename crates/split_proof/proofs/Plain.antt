@@ -1,4 +1,4 @@
--- Where no placeholder is in the store, no step calls one.
+-- No step calls a placeholder where the store has none.
 use Rattle.base_lists.proofs.Common.{◌≡◌, refl, ap, ◌∙◌, ℕ, List, [], ◌∷◌, Option, Some, None, Bool, true, false, cond, nat_eq, slice_get, then_all, any_there}
 use Rattle.base_lists.specs.Options.{◌>>=◌}
 use Rattle.wasm_tree_spec.specs.Prelude.{FuncType}
@@ -71,7 +71,7 @@ module _ (s : Store) (none : (a n : ℕ) (u : FuncType) → slice_get s.funcs a 
   answered_plain r xs (Ended vs ∷ es) = absent
   answered_plain r xs (Growing g ∷ es) = absent
 
-  -- a step that the run makes calls nothing
+  -- A step that reads or writes an external value calls nothing.
   made_plain : {A : Type 0} (o : Option A) (f : A → Option Transition) → ((a : A) → IfThere IsPlain (f a)) → IfThere IsPlain (o >>= f)
   made_plain None f h = absent
   made_plain (Some a) f h = h a

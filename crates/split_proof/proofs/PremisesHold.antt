@@ -1,4 +1,5 @@
--- The premises of the law hold of small modules, so that it speaks of them: a split that gives a wrong pair for one of these breaks it.
+-- The premises of the equivalence law hold of small modules, so a split that gives a wrong pair for
+-- one of these breaks the law.
 use Rattle.base_lists.proofs.Common.{◌≡◌, refl, ap, subst, ℕ, zero, suc, ◌<◌, ◌^◌, arith, List, [], ◌∷◌, Some, None, slice_get, false, rules, pos, Contains, same_Some}
 use Rattle.std.specs.Prelude.{unwrap_or}
 use Rattle.wasm_tree_spec.specs.Prelude.{the_lemmas, Func, Module, IsBounded, local_count}
@@ -46,7 +47,7 @@ holding_is_valid = (
 
 -- ---- bounded ----
 
--- each function has one type, without parameters, and no locals
+-- Each function has the one type, without parameters, and no locals.
 no_locals : (n : ℕ) (h : Func) → slice_get (func 0 (i.I32Const (pos 7) ∷ []) ∷ []) n ≡ Some h → local_count (gives_number ∷ []) h < 2 ^ 32
 no_locals zero h e = rw (← same_Some _ _ e) (omega arith)
 no_locals (suc n) h e = cc
@@ -86,11 +87,11 @@ holding_can_be_split = record { valid = holding_is_valid; bounded = holding_is_b
 
 -- ---- wrong splits ----
 
--- what the law says, with this split in the place of `split_world`
+-- The equivalence law, with this split in place of `split_world`.
 abbrev HasEqualTraces : (Module → List ℕ → LoaderWorld) → Type 0
 HasEqualTraces split = (m : Module) (moved : List ℕ) → CanBeSplit (λ slot. placeholder_word) names m moved (moved ∷ []) → ObservationallyEquivalent m (split m moved) (most_params m moved)
 
--- no split that gives this world for the module satisfies it
+-- No split that gives this world for the module satisfies the law.
 abbrev BreaksTheLaw : Module → LoaderWorld → Type 0
 BreaksTheLaw m wrong = (split : Module → List ℕ → LoaderWorld) → split m (0 ∷ []) ≡ wrong → HasEqualTraces split → ⊥
 

@@ -1,4 +1,5 @@
--- Each export of the primary module holds: it is in its space, and none before it has its name.
+-- Each export of the primary module is valid: its index is in its index space, and no export before
+-- it has its name.
 use Rattle.base_lists.proofs.Common.{◌≡◌, ◌∙◌, ap, ap₂, sym, subst, refl, ℕ, zero, suc, ◌+◌, ◌^◌, ◌<◌, ◌≤◌, List, [], ◌∷◌, ◌++◌, map, take, length, Bool, true, false, Some, None, ⊎_elim, slice_get, slice_index, arith, true≢false, Contains, list_any, bytes_eq, length-map, length-append, map-append}
 use Rattle.base_lists.proofs.Common.{take-map, slice_get_within, bytes_eq-Decides, cond_is, has_chosen, length-numbers, numbers_index, append_from, map_at, map_from, map_twice, slice_get_there, any_from_place, there_contains, among_right, there_among}
 use Rattle.base_lists.proofs.Each.{contains_there}
@@ -19,7 +20,7 @@ use Rattle.split_proof.proofs.Names.{Distinct, HasLetter, distinct_append, lette
 use Rattle.split_proof.proofs.PrimarySpaces as spaces
 use Rattle.split_proof.proofs.SharedFuncs.{shared_left, shared_within}
 
--- where none is taken, no export has one of the names
+-- No export has one of the names where none of these is taken.
 none_taken : (m : Module) (names : List (List ℕ)) → name_taken m names ≡ None → (i j : ℕ) (x : List ℕ) → slice_get names i ≡ Some x → slice_get (map (λ e. e.name) m.exports) j ≡ Some x → ⊥
 none_taken m [] h i j x a b = cc
 none_taken m (n ∷ ns) h i j x a b = ⊎_elim (λ e. let is : Some n ≡ None = e.1 in cc) (λ e. later (λ i a g. none_taken m ns g i j x a b) i a e) (cond_is (list_any (λ e. bytes_eq e.name n) m.exports) (Some n) (name_taken m ns) None h)
@@ -105,7 +106,7 @@ module _ (namespace : ℕ → List ℕ) (prefix : List ℕ) (m : Module) (holds 
   more_letters letter letters xs ys h k i x at =
       ⊎_elim (λ e. (letter, there_among (letter ∷ letters) 0 letter refl, h i x e)) (λ e. let r = k e.0 x e.2 in (r.0, among_right (letter ∷ []) letters r.0 r.1, r.2)) (append_from xs ys i x at)
 
-  -- a block of names with a letter that none of the others has
+  -- Names with a letter that none of the others has are distinct from these.
   block : (letter : ℕ) (letters : List ℕ) (xs ys : List (List ℕ)) → is_among letters letter ≡ false → ((i : ℕ) (x : List ℕ) → slice_get xs i ≡ Some x → HasLetter prefix letter x) → Letters letters ys → Distinct xs → Distinct ys → Distinct (xs ++ ys)
   block letter letters xs ys other h k dx dy =
       distinct_append xs ys dx dy (λ i j x a b.

@@ -1,4 +1,5 @@
--- The primary module keeps the numbers of the module, and those that it adds are small.
+-- The numbers of the primary module are in range: they are those of the module, or small ones that
+-- the split adds.
 use Rattle.base_lists.proofs.Common.{◌≡◌, ◌∙◌, ap, sym, subst, refl, ℕ, suc, ◌+◌, ◌≤◌, ◌<◌, ◌^◌, Bool, List, [], ◌∷◌, drop, map, length, Option, Some, None, option_and_then, slice_get, arith, IsUtf8, option_map_or, every_at, append_right, map_at}
 use Rattle.base_lists.proofs.Every.{every_from, every_map, every_append}
 use Rattle.base_lists.specs.Every.{Every}
@@ -20,7 +21,7 @@ use Rattle.split_proof.proofs.SharedInRange.{NumberLaws, entities_few, slot_limi
 
 -- ---- parameters ----
 
--- the parameters of a defined function are no more than its locals
+-- The parameters of a defined function are counted among its locals.
 params_few : (m : Module) → IsBounded m → (p : ℕ) (f : Func) → slice_get m.funcs p ≡ Some f → length (params_of m (length (imported_funcs m.imports) + p)) < 2 ^ 32
 params_few m few p f at =
     let k = length (imported_funcs m.imports) in
@@ -118,7 +119,8 @@ primary_numbers laws namespace prefix m moved namespaces utf8 h few most =
 
 -- ---- how many move ----
 
--- one placeholder is imported for each function that moves
+-- The number of moved functions is within the limit of imports, as one placeholder is imported for
+-- each.
 pub few_move : CountsAreWithinWhereNoneIsOver → (namespace : ℕ → List ℕ) (prefix : List ℕ) (m : Module) (moved : List ℕ) → over_limit (primary_with namespace prefix m moved) ≡ None →
     length moved < 2 ^ 31
 few_move within namespace prefix m moved none =

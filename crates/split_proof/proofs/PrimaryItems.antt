@@ -1,4 +1,5 @@
--- Each item of the primary module but its exports holds, but for references.
+-- Each item of the primary module except its exports is valid, except for the declaration of
+-- references.
 use Rattle.base_lists.proofs.Common.{◌≡◌, ◌∙◌, ap, ap₂, sym, subst, refl, ℕ, ◌+◌, ◌<◌, List, [], ◌∷◌, ◌++◌, drop, map, length, Option, Some, None, Bool, true, false, ◌&&◌, not, ⊎_elim, option_and_then, slice_get, slice_index, arith, true≢false, nat_lt, pos, cons_option, option_map_or, lt-ltb}
 use Rattle.base_lists.proofs.Common.{ltb-true, slice_get_within, has_chosen, numbers_index, and_then_is, append_at_left, append_right, map_at, map_from, slice_get_there, left_either, right_either, among_left, among_right, among_joined, there_among, no_place, none_among, only_rest, only_true}
 use Rattle.base_lists.specs.Members.{is_among}
@@ -86,7 +87,7 @@ module _ (laws : BodyLaws) (namespace : ℕ → List ℕ) (prefix : List ℕ) (m
       ap (λ n. const_type new (const.Global n)) entry
       ∙ ap₂ (λ gs is. option_and_then (λ x. only (nat_lt g (length is) && not x.mutable) (Some x.ty)) (slice_get gs g)) (spaces.globals_are namespace prefix m holds moved can) (spaces.imported_globals_are namespace prefix m holds moved can) ∙ h
 
-  -- an offset names no function
+  -- An offset of a segment names no function.
   pub no_func : (e : ConstExpr) → const_type m e ≡ Some I32 → (f : ℕ) → const_func e ≡ Some f → is_left m moved f ≡ true
   no_func (const.I32 v) h f is = absurd (let z = is in cc)
   no_func (const.I64 v) h f is = absurd (let z = is in cc)
@@ -212,7 +213,7 @@ module _ (laws : BodyLaws) (namespace : ℕ → List ℕ) (prefix : List ℕ) (m
   slots_item j s new_at same =
       (new_elem map_of (slot_segment (slot_table m) 0 (in_slots m (length moved))), new_at ∙ ap (λ s. Some (new_elem map_of s)) same, slot_typed map_of m new (length moved) slot_within, (spaces.slot_table_at namespace prefix m holds moved can, refl))
 
-  -- the exports are apart
+  -- The item is no export: exports are proved valid in another file.
   abbrev pub NoExport : ItemKind → Type 0
   NoExport kind.Export = ⊥
   NoExport _ = Unit {0}

@@ -1,4 +1,5 @@
--- The index spaces of the primary module: what the module imports, the placeholders, and what is left of what it defines; and where each index goes.
+-- The index spaces of the primary module (the imports of the module, the placeholders, and the
+-- definitions that are left), and the new index of each entity.
 use Rattle.base_lists.proofs.Common.{◌≡◌, ◌∙◌, ap, ap₂, sym, subst, refl, ℕ, zero, suc, ◌+◌, ◌<◌, ◌≤◌, List, [], ◌∷◌, ◌++◌, drop, map, length, Option, Some, None, Bool, true, false, not, ⊎_elim, option_and_then, slice_get, slice_index, arith, append_assoc, decimal, nat_le, nat_lt, cons_option}
 use Rattle.base_lists.proofs.Common.{leb-true, length-append, length-drop, length-map, filter_map-append, get_or_from_slice_get, slice_get_within, left_true, every_at, length-numbers, numbers_at, numbers_index, and_then_is, append_at_left, append_from, append_right, drop_at, map_at, map_from}
 use Rattle.base_lists.proofs.Common.{map_twice, push_last, slice_get_there, slice_index_is, cases_Bool, left_either, map_stays, index_left, index_right, among_there}
@@ -30,7 +31,7 @@ module _ (namespace : ℕ → List ℕ) (prefix : List ℕ) (m : Module) (holds 
   abbrev pub u : Module
   u = renumbered_tree r (primary_tree namespace prefix m moved)
 
-  -- how many functions the module imports
+  -- The number of functions that the module imports.
   abbrev k : ℕ
   k = length (imported_funcs m.imports)
 
@@ -163,7 +164,7 @@ module _ (namespace : ℕ → List ℕ) (prefix : List ℕ) (m : Module) (holds 
   pub funcs_are : funcs_of u ≡ imported_funcs m.imports ++ (map (type_index m) moved ++ kept (drop k left) defined_types)
   funcs_are = ap₂ (λ xs ys. xs ++ ys) imported_funcs_are func_types ∙ append_assoc (imported_funcs m.imports) (map (type_index m) moved) (kept (drop k left) defined_types)
 
-  -- where an imported function stays, and one that is defined goes behind the placeholders
+  -- An imported function keeps its index, and a defined one comes after the placeholders.
   pub imported_index : (i : ℕ) → i < k → slice_index r.funcs i ≡ i
   imported_index i lt =
       let many = length-numbers 0 k in
@@ -208,7 +209,7 @@ module _ (namespace : ℕ → List ℕ) (prefix : List ℕ) (m : Module) (holds 
       (λ e. ap (λ n. slice_get (funcs_of u) (slice_index r.funcs n)) e.1 ∙ defined_entry e.0 ty (sym (ap (is_left m moved) e.1) ∙ h) e.2)
       (append_from (imported_funcs m.imports) defined_types i ty at)
 
-  -- a placeholder is at its slot behind what the module imports
+  -- The index of a placeholder is its slot after the imported functions of the module.
   pub placeholder_entry : (p : ℕ) → p < length moved → slice_index r.funcs (length (funcs_of m) + p) ≡ k + p
   placeholder_entry p lt =
       let b = map (λ place. length moved + place) (drop k (new_places left)) in

@@ -1,4 +1,5 @@
--- A call through the greatest slot that the law lets there be is in range, and one through the next slot, or a segment from there on, is not.
+-- A call through the greatest slot that the law allows is in range, and one through the next slot,
+-- or a segment from that slot on, is not.
 use Rattle.base_lists.proofs.Common.{◌≡◌, refl, [], Bool, true, false, arith, pos, ints}
 use Rattle.wasm_tree_spec.specs.Prelude.{fold_out-Instr}
 use Rattle.wasm_tree.specs.declared.instr.Instr.{out-Instr}

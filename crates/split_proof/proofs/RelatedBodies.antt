@@ -1,5 +1,5 @@
--- The code of functions that stay in the primary module is related to theirs in the module, where what stands in place of calls of functions that move calls these through
--- their slots.
+-- The code of functions that stay in the primary module is related to their code in the module,
+-- where calls of moved functions are replaced by calls through their slots.
 use Rattle.base_lists.proofs.Common.{◌≡◌, ◌∙◌, ap, sym, subst, refl, ℕ, suc, ◌+◌, ◌-◌, ◌<◌, ◌≤◌, ◌&&◌, ◌||◌, List, [], ◌∷◌, ◌++◌, map, length, not, Option, Some, None, Bool, true, false, cond, nat_eq, arith, true≢false, ⊎_elim, slice_get, slice_index, pos, nat_le, nat_lt, cons_option, leb-true}
 use Rattle.base_lists.proofs.Common.{length-append, slice_get_within, same_Some, left_true, right_true, same_tests, each_same_self, every_at, places_many, numbers_at, numbers_index, append_right, and_from, cases_Bool, either_true, left_either, right_either, same_number, among_right, among_joined}
 use Rattle.base_lists.proofs.Common.{among_there, there_among, place_is, no_place, none_among, the_one}
@@ -37,7 +37,7 @@ use Rattle.split_proof.specs.Laws.{CanBeSplit}
 use Rattle.split_proof.proofs.Placeholders.{moved_few, moved_typed, slot_stays}
 use Rattle.split_proof.proofs.Entries.{Laws, O, P, Q, defined_there, entries, holds, k, old, own, r, stay, tables_are, types_are}
 
--- the place of an item, where the items go each to a place of its own
+-- The place of an element is the same after an injective function is applied to the list.
 place_mapped : (f : ℕ → ℕ) (x : ℕ) (xs : List ℕ) (from : ℕ) → ((p y : ℕ) → slice_get xs p ≡ Some y → f x ≡ f y → x ≡ y) → first_place (nat_eq (f x)) (map f xs) from ≡ first_place (nat_eq x) xs from
 place_mapped f x [] from apart = refl
 place_mapped f x (y ∷ xs) from apart =
@@ -62,7 +62,7 @@ module _ (laws : Laws) (namespace : ℕ → List ℕ) (names : SplitNames) (m : 
   abbrev stays_in : Space → ℕ → Bool
   stays_in = spaces.stays namespace names.export_prefix m valid moved g.can_move
 
-  -- the operand is that of a call that is replaced, or its index stays
+  -- The operand is that of a replaced call, or its index stays.
   abbrev goes_on : Operand → Bool
   goes_on o = is_opaque_call moved o || stays_in o.space o.index
 
@@ -101,7 +101,7 @@ module _ (laws : Laws) (namespace : ℕ → List ℕ) (names : SplitNames) (m : 
 
   -- ---- functions that move ----
 
-  -- such a function is defined
+  -- A moved function is defined.
   pub moved_defined : (p f : ℕ) → slice_get moved p ≡ Some f → (imported ≤ f) × (f - imported < length m.funcs)
   moved_defined p f at =
       let c = every_at (λ func. (is_defined m func ≡ true) × (body_uses_segment m func ≡ false)) moved p f g.can_move at in
@@ -114,11 +114,11 @@ module _ (laws : Laws) (namespace : ℕ → List ℕ) (names : SplitNames) (m : 
     abbrev at_address : ℕ → ℕ
     at_address = defined_address env m
 
-    -- no two have the same address
+    -- No two moved functions have the same address.
     pub addresses_apart : (p q x y : ℕ) → slice_get moved p ≡ Some x → slice_get moved q ≡ Some y → at_address x ≡ at_address y → x ≡ y
     addresses_apart p q x y a b e = let l = (moved_defined p x a).0 in let n = (moved_defined q y b).0 in omega (arith, l, n, e)
 
-    -- the place of its address is its slot
+    -- The place of the address of a moved function is its slot.
     pub slot_of_address : (p f slot : ℕ) → slice_get moved p ≡ Some f → place_among moved f ≡ Some slot → place_among (moved_addresses env m moved) (at_address f) ≡ Some slot
     slot_of_address p f slot at e = place_mapped at_address f moved 0 (λ q y there same. addresses_apart p q f y at there same) ∙ e
 
@@ -142,7 +142,8 @@ module _ (laws : Laws) (namespace : ℕ → List ℕ) (names : SplitNames) (m : 
       abbrev kept : Indices
       kept = stay laws namespace names m moved owns g
 
-      -- the entries name what the indices name, whatever functions are opaque
+      -- The entries name partners of the entities that the indices name, whatever functions are
+      -- opaque.
       pub entries_named : EntriesName R map_of kept i j
       entries_named Types x h = entries laws namespace names m moved owns g env i j a b Types x h
       entries_named Functions x h = entries laws namespace names m moved owns g env i j a b Functions x h
@@ -168,7 +169,7 @@ module _ (laws : Laws) (namespace : ℕ → List ℕ) (names : SplitNames) (m : 
 
       -- ---- what stands in place of calls ----
 
-      -- the slot table of the primary module's instance
+      -- The instance of the primary module has the address of the slot table.
       pub slots_there : slice_get j.tables (slot_table m) ≡ Some (slot_table_address env m)
       slots_there =
           let own_there = own laws namespace names m moved owns g env in
@@ -188,7 +189,7 @@ module _ (laws : Laws) (namespace : ℕ → List ℕ) (names : SplitNames) (m : 
           let typed = moved_typed namespace names m moved owns g valid p f at in
           ap (slice_get j.types) (numbers_index (length m.types) (type_index m f) (slice_get_within m.types (type_index m f) (type_in m f) typed)) ∙ ap (λ ts. slice_get ts (type_index m f)) (b.types ∙ types_are laws namespace names m moved owns g) ∙ typed
 
-      -- the call through a slot, with the indices of the primary module
+      -- The call through a slot, with the indices of the primary module.
       abbrev through : (f slot : ℕ) → List Instr
       through f slot = slot_call (slice_index map_of.types (type_index m f)) (slice_index map_of.tables (slot_table m)) (pos slot)
 
@@ -231,7 +232,7 @@ module _ (laws : Laws) (namespace : ℕ → List ℕ) (names : SplitNames) (m : 
       type_kept p f at =
           ap (λ ts. slice_get ts f.ty) (a.types ∙ sym (types_are laws namespace names m moved owns g) ∙ sym b.types) ∙ ap (slice_get j.types) (sym (numbers_index (length m.types) f.ty (func_holds m valid p f at)))
 
-      -- one that stays has related code, and of a trampoline only the type is asked
+      -- A function that stays has related code, and a trampoline has the type of its function.
       pub func_at : (n : ℕ) (f : tree.Func) → slice_get m.funcs n ≡ Some f → FuncsAt R (O laws namespace names m moved owns g env + n) i j f (new_func map_of (primary_func m moved (place_among moved (imported + n)) (imported + n) f))
       func_at n f at = by (place_among moved (imported + n)) refl
         where

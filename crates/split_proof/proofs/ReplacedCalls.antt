@@ -1,5 +1,5 @@
--- A call of a function that moves in the first run, where other code stands in place of it in the second: it calls what is in the function's slot, or the function that is
--- loaded for it.
+-- A call of a moved function in the first run, which the second replaces by a call through the slot
+-- of the function or by a direct call of the loaded function.
 use Rattle.base_lists.proofs.Common.{◌≡◌, ◌∙◌, refl, sym, ap, ap₂, subst, ℕ, suc, ◌+◌, ◌≤◌, ◌&&◌, List, [], ◌∷◌, ◌++◌, Some, None, Bool, true, false, arith, slice_get, nat_eq, option_and_then, ℤ, and_parts, eqb-true, same_Some, and_then_is, map_from, unwrap_or_false_is, place_is, and_from}
 use Rattle.base_lists.proofs.Common.{each_same_is, each_same_self}
 use Rattle.base_lists.specs.Options.{◌>>=◌}
@@ -35,7 +35,7 @@ use Rattle.split_proof.proofs.Stuttering.{StutteringSteps, at, before, here, las
 
 -- ---- what stands there ----
 
--- the call of what is in the slot of a function
+-- The indices and the number of a call through the slot of a moved function.
 record CallsSlot (env : Environment) (m : Module) (moved : List ℕ) (j : Inst) (a : ℕ) (slot : ℤ) (ty table : ℕ) : Type 0 where
   pub place : ℕ
   pub func : ℕ
@@ -72,19 +72,20 @@ calls_slot env m moved j a slot ty table h =
 
 -- ---- the steps ----
 
--- a direct call pops its arguments
+-- A direct call pops its arguments and enters the function.
 direct_call : (s : Store) (f : Frame) (o : Level) (os : List Level) (u : FuncType) (n a : ℕ) (c : List Instr) (vs : List Val) (es : List Entry) → slice_get f.inst.funcs n ≡ Some a → type_at s a ≡ Some u →
     step s (Running (at_code f o os vs (Call n ∷ c)) ∷ es) ≡ bind (pop_typed u.params vs) (λ p. enter_at s a p.0 (Running (at_code f o os p.1 c) ∷ es))
 unfolding out-Instr denote.Hole.Carrier.out
 direct_call s f o os u n a c vs es named typed = rw (named, typed) refl
 
--- the slot's number is pushed
+-- The first instruction of a call through a slot pushes the number of the slot.
 number_pushed : (t : Store) (g : Frame) (m : Level) (ms : List Level) (ty table : ℕ) (slot : ℤ) (more : List Val) (d : List Instr) (fs : List Entry) →
     step t (Running (at_code g m ms more (I32Const slot ∷ (CallIndirect ty table ∷ d))) ∷ fs) ≡ Gives (Ran t (Running (at_code g m ms (Num W32 (wrapped 32 slot) ∷ more) (CallIndirect ty table ∷ d)) ∷ fs))
 unfolding out-Instr denote.Hole.Carrier.out
 number_pushed t g m ms ty table slot more d fs = refl
 
--- then the call of what is in the slot pops its arguments
+-- The second instruction of a call through a slot pops the arguments and enters the function in the
+-- slot.
 slot_called : (t : Store) (g : Frame) (m : Level) (ms : List Level) (u : FuncType) (ty table : ℕ) (slot : ℤ) (c : ℕ) → InSlot t g.inst u ty table slot c → (more : List Val) (d : List Instr) (fs : List Entry) →
     step t (Running (at_code g m ms (Num W32 (wrapped 32 slot) ∷ more) (CallIndirect ty table ∷ d)) ∷ fs) ≡ bind (pop_typed u.params more) (λ p. enter_at t c p.0 (Running (at_code g m ms p.1 d) ∷ fs))
 unfolding out-Instr denote.Hole.Carrier.out
@@ -98,7 +99,7 @@ slot_called t g m ms u ty table slot c h more d fs =
     ap (λ a. bind a (perform t called fs)) calls
     ∙ ap (λ o. bind (or_ill_typed o) (λ v. bind (pop_typed v.params more) (λ p. enter_at t c p.0 (Running (at_code g m ms p.1 d) ∷ fs)))) type_is
 
--- one stuttering step more
+-- A number of stuttering steps followed by one more.
 one_more : {S E : Type 0} (t : Machine S E) {n : ℕ} {s q r : S} → StutteringSteps t n s q → t q ≡ (r, None) → StutteringSteps t (suc n) s r
 one_more t here e = before e here
 one_more t (before f rest) e = before f (one_more t rest e)
@@ -115,7 +116,7 @@ module _ (laws : SettleLaws) (answered : PlaceholdersAreAnswered) (namespace : �
     abbrev R : Pairing
     R = split_pairing env m moved loaded
 
-    -- the second with this stack
+    -- The second run with this stack.
     abbrev reached : List Entry → LoaderRun
     reached gs = record q { run = at (record q.run { moves = r.moves }) q.run.store gs }
 
@@ -153,7 +154,7 @@ module _ (laws : SettleLaws) (answered : PlaceholdersAreAnswered) (namespace : �
     traps_too gs _ _ (done {a = (Host, es)} {b = (Starter, fs)} p) = absurd (let k = p.first in cc)
     traps_too gs _ _ (done {a = (Starter, es)} {b = (Host, fs)} p) = absurd (let k = p.first in cc)
 
-    -- after so many stuttering steps
+    -- A trap of both runs is answered after a bounded number of stuttering steps.
     wrong_after : (n : ℕ) → n ≤ most + 2 → (gs : List Entry) → StutteringSteps (tick_loader w) n q (reached gs) → tick r ≡ trapped_to r (to_mark r.entries) → tick_loader w (reached gs) ≡ (record q { run = (trapped_to (reached gs).run (to_mark gs)).0 }, (trapped_to (reached gs).run (to_mark gs)).1) →
         ResRel (PairRel (◌≡◌ {A = Caller}) (WithPassing R)) (to_mark r.entries) (to_mark gs) → StepAnswered env m moved w first second most r q
     wrong_after n le gs silent first_is second_is marks =
@@ -177,7 +178,7 @@ module _ (laws : SettleLaws) (answered : PlaceholdersAreAnswered) (namespace : �
     -- ---- the arguments are popped ----
 
     module _ (e : ReplacementCode R r q.run) (u : FuncType) (typed : type_at r.store e.address ≡ Some u) where
-      -- the first goes on below these
+      -- The stack of the first run below the called function.
       abbrev first_below : List Val → List Entry
       first_below vs = Running (at_code e.frame e.level e.outer vs e.rest) ∷ e.below
 
@@ -188,7 +189,7 @@ module _ (laws : SettleLaws) (answered : PlaceholdersAreAnswered) (namespace : �
       first_calls =
           ap (transition_at r) e.top.1 ∙ ap (Steps r) (e.step ∙ direct_call r.store e.frame e.level e.outer u e.index e.address e.rest e.level.values e.below e.names typed)
 
-      -- and then it enters the function
+      -- The step is answered where both runs enter the called functions with related arguments.
       abbrev EntersCallee : (n c : ℕ) (k : Frame) → Type 0
       EntersCallee n c k =
           (vs ws left right : List Val) → ListRel (ValRel R) vs ws → WithPassing R (first_below left) (second_below right) → transition r ≡ Steps r (enter_at r.store e.address vs (first_below left)) → step q.run.store (Running k ∷ e.second_below) ≡ enter_at q.run.store c ws (second_below right) →
@@ -256,7 +257,7 @@ module _ (laws : SettleLaws) (answered : PlaceholdersAreAnswered) (namespace : �
       abbrev u : FuncType
       u = type_in m x.func
 
-      -- the frame before the slot's number is pushed, and then
+      -- The frames of the second run before and after the number of the slot is pushed.
       abbrev before_it : Frame
       before_it = at_code e.second_frame e.second_level e.second_outer e.second_level.values (I32Const slot ∷ (CallIndirect ty table ∷ e.second_rest))
 
@@ -279,7 +280,7 @@ module _ (laws : SettleLaws) (answered : PlaceholdersAreAnswered) (namespace : �
           (record { type = x.type; address = slot_table_address env m; names = x.table_is; slots = h.funcs.table; stands = h.funcs.table_stands; refers = ap (slice_get h.funcs.table.slots) x.wrapped_is ∙ refers; function = d; is_function = is; typed = typed })
           e.second_level.values e.second_rest e.second_below
 
-      -- its placeholder is called
+      -- The case in which the placeholder is called.
       waiting : (z : SlotIs env m moved w loaded r.store q h.funcs.table x.place x.func) → z.is_loaded ≡ false → slice_get h.funcs.table.slots x.place ≡ Some (FuncRef (Some (own_count Functions env + x.place))) →
           slice_get q.run.store.funcs (own_count Functions env + x.place) ≡ Some (Placeholder x.place u) → StepAnswered env m moved w first second most r q
       waiting z not_loaded refers stands =

@@ -1,4 +1,4 @@
--- Code in which other code stands in place of calls, and then each index is replaced by its entry.
+-- Code in which calls are replaced, and then each index is replaced by its entry.
 use Rattle.base_lists.proofs.Common.{◌≡◌, ℕ, List, [], ◌∷◌, Bool, true, false, refl, sym, ap, ◌∙◌, subst, arith, rules, map-append}
 use Rattle.base_lists.specs.Members.{is_among}
 use Rattle.wasm_tree_spec.specs.Prelude.{BlockType, FuncType, Instr, fold_out-Instr, Row_of-Instr, items-the_row-Instr, end_of-Instr, more_of-Instr, the_lemmas, Block, Block', Loop, Loop', If, If', Call}
@@ -10,7 +10,7 @@ use Rattle.split_proof.specs.Calls.{renumbered_codes}
 use Rattle.split_proof.proofs.Blocks.{block_calls, if_calls, loop_calls}
 
 module _ (m : Remap) (code : ℕ → List Instr) where
-  -- with its calls replaced, and then other indices
+  -- The code with its calls replaced and then renumbered.
   abbrev new : List Instr → List Instr
   new is = renumbered_all m (with_calls code is)
 

@@ -1,5 +1,6 @@
--- What the laws ask for is met by a small module; and the tree of a secondary module whose references are not declared yet is not always valid, nor is a primary
--- module that calls through a slot by another type.
+-- A small module satisfies the premises of the laws. The tree of a secondary module whose
+-- references are not declared yet may be invalid, and so is a primary module that calls through a
+-- slot with a wrong type.
 use Rattle.base_lists.proofs.Common.{◌≡◌, refl, sym, subst, ℕ, zero, suc, ◌^◌, ◌<◌, [], ◌∷◌, Some, None, slice_get, arith, rules, ◌∙◌, ◌++◌, pos}
 use Rattle.std.specs.Fmt.{digits}
 use Rattle.wasm_tree.specs.declared.types.ValType.TheVariants as valt
@@ -48,7 +49,7 @@ calling_is_bounded =
 what_is_called_can_move : CanMove calls_next (1 ∷ [])
 what_is_called_can_move = ((refl, search (rules, the_lemmas)), tt)
 
--- so can the one that is exported, which calls it
+-- The exported function, which calls the other, can move as well.
 both_can_move : CanMove calls_next (0 ∷ 1 ∷ [])
 both_can_move = ((refl, search (rules, the_lemmas)), ((refl, search (rules, the_lemmas)), tt))
 
@@ -57,11 +58,12 @@ no_name_is_taken = search (rules, the_lemmas)
 
 -- ---- a secondary module before its references are declared ----
 
--- its function, which is exported as "f", names itself by `ref.func`
+-- The function of the module, which is exported as "f", names itself by `ref.func`.
 abbrev naming : Module
 naming = record empty { types = nothing ∷ []; funcs = func 0 (i.RefFunc 0 ∷ i.Drop ∷ []) ∷ []; exports = export (102 ∷ []) (ex.Func 0) ∷ [] }
 
--- in the secondary module it names the trampoline, which is imported as "%f0" and which nothing but its body names
+-- In the secondary module the function names the trampoline, which is imported as "%f0" and named
+-- only in this body.
 abbrev undeclared : Module
 undeclared = record empty {
   types = nothing ∷ [];
@@ -78,7 +80,7 @@ it_is_declared : secondary names naming (0 ∷ []) ≡ record undeclared { elems
 unfolding secondary_with digits
 it_is_declared = search (rules, the_lemmas)
 
--- so that it is not valid yet
+-- The tree is not valid before the reference is declared.
 its_tree_is_not_valid : IsValid undeclared → ⊥
 its_tree_is_not_valid (first, (second, (types, (items, ((f, t, at, ty, typed), none))))) =
     let same : func 0 (i.RefFunc 0 ∷ i.Drop ∷ []) ≡ f = cc in
@@ -89,7 +91,7 @@ its_tree_is_not_valid (first, (second, (types, (items, ((f, t, at, ty, typed), n
 
 -- ---- a call through a slot by another type ----
 
--- what the function that calls would be, if its call were by a type that gives nothing
+-- The calling function, if it called through the slot with a type without results.
 abbrev mistyped_func : Func
 mistyped_func = func 0 (i.I32Const (pos 0) ∷ i.CallIndirect 1 0 ∷ [])
 

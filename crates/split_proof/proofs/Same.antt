@@ -1,4 +1,5 @@
--- A module that is split shows what it shows alone: each call of a function that moves is answered, and so each step.
+-- A split module is observationally equivalent to the module, as each call of a moved function, and
+-- so each step, is answered.
 use Rattle.wasm_tree_spec.specs.Prelude.{Module}
 use Rattle.wasm_meaning.specs.Prelude.{Environment}
 use Rattle.index_remap.specs.Trampolines.{TrampolinesEnterSlots}

@@ -46,7 +46,7 @@ module _ (laws : BodyLaws) (entries_there : EntriesAreThere) (names : SplitNames
       let c = length-map (tables_of m) im.Table in
       omega (arith, a, b, c)
 
-  -- an index that is there and of no segment has an entry
+  -- Each index of the module has an entry, except those of segments.
   others : (space : Space) (called : Bool) (i : ℕ) → names_segment (record { space = space; index = i; called = called }) ≡ false → has (entries old space) i ≡ true → has (entries map_of space) i ≡ true
   others Types called i n h = h
   others Functions called i n h = let a = funcs_many in let b = length-numbers 0 (length (funcs_of m)) in longer old.funcs map_of.funcs i (omega (arith, a, b)) h

@@ -1,4 +1,5 @@
--- A secondary module has numbers of the module, and those that it adds are small.
+-- The numbers of a secondary module are in range: they are those of the module, or small ones that
+-- the split adds.
 use Rattle.base_lists.proofs.Common.{◌≡◌, ℕ, ◌+◌, ◌-◌, ◌≤◌, ◌<◌, ◌^◌, List, length, Option, Some, None, true, slice_get, subst, arith, IsUtf8, option_map, slice_get_within, every_at, option_map_is, chosen_from}
 use Rattle.base_lists.proofs.Every.{every_of, every_from, every_map, every_some, every_append}
 use Rattle.std.proofs.Common.{filter_map}
@@ -18,7 +19,7 @@ use Rattle.split_proof.proofs.SharedInRange.{NumberLaws, entities_few, slot_limi
 
 -- ---- what the module has in each index space ----
 
--- what is chosen of such elements
+-- A property of the elements of a list gives a property of the values that are chosen from them.
 every_chosen : {A B : Type 0} (P : A → Type 0) (Q : B → Type 0) (f : A → Option B) → ((x : A) (y : B) → P x → f x ≡ Some y → Q y) → (xs : List A) → Every P xs → Every Q (filter_map f xs)
 every_chosen P Q f keep xs h = every_from Q (filter_map f xs) (λ n y at. let c = chosen_from f xs n y at in keep c.0 y (every_at P xs c.1.0 c.0 h c.1.1) c.2)
 

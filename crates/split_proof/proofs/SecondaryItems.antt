@@ -1,4 +1,4 @@
--- Each item of a secondary module holds, but for references.
+-- Each item of a secondary module is valid, except for the declaration of references.
 use Rattle.base_lists.proofs.Common.{◌≡◌, ◌∙◌, ap, ap₂, sym, subst, refl, ℕ, zero, suc, ◌+◌, ◌-◌, ◌<◌, List, [], ◌∷◌, ◌++◌, map, length, Option, Some, None, Bool, true, false, ◌&&◌, ◌||◌, not, ⊎_elim, option_and_then, slice_get, slice_index, arith, true≢false, option_map, length-map}
 use Rattle.base_lists.proofs.Common.{slice_get_within, chosen_from, numbers_index, option_map_is, append_from, map_at, map_from, slice_get_there, left_either, right_either, any_from_place, among_append, place_is, no_place, none_among}
 use Rattle.base_lists.proofs.Bools.{left_false, right_false}
@@ -23,7 +23,8 @@ use Rattle.split_proof.proofs.Spaces.{entity_holds, func_holds}
 use Rattle.split_proof.proofs.SlotCalls.{slot_typed, through_slot_typed}
 use Rattle.split_proof.proofs.Typed.{call_renumbered, call_typed}
 
--- an operand that is no call of a function that moves names its index so
+-- An operand that is no call of a moved function names an entity that is imported from the primary
+-- module.
 names_itself : (moved : List ℕ) (o : Operand) → is_opaque_call moved o ≡ false → is_named_from_primary moved o.space o.index o ≡ true
 names_itself moved o e = ap₂ (λ a b. a && b) (same o.space) (ap₂ (λ a b. a && b) (eq-eqb o.index o.index refl) (ap not e))
   where
@@ -76,7 +77,7 @@ module _ (laws : BodyLaws) (names : SplitNames) (m : Module) (holds : ItemsHold 
 
   -- ---- calls ----
 
-  -- a function that does not move is called as it is
+  -- A call of a function that does not move stays.
   others : (f : ℕ) → is_among (moved ++ own) f ≡ false → secondary_call m moved own f ≡ Call f ∷ []
   others f h =
       let parts = sym (among_append moved own f) ∙ h in
@@ -110,11 +111,11 @@ module _ (laws : BodyLaws) (names : SplitNames) (m : Module) (holds : ItemsHold 
 
   -- ---- bodies ----
 
-  -- the operand is a call of a function on the list, or is of what stays
+  -- The operand is a call of a moved function, or its index stays.
   abbrev is_met : Operand → Bool
   is_met o = is_opaque_call (moved ++ own) o || stays names m holds moved own before o.space o.index
 
-  -- so is each that a body of its own names
+  -- The operands of the bodies of the secondary module pass this test.
   body_met : (p f : ℕ) (at : slice_get own p ≡ Some f) → Met is_met (λ test. any_operand_passes test (own_moves names m holds moved own before can p f at).func.body)
   body_met p f at o t = by (is_opaque_call moved o) refl
     where

@@ -1,4 +1,5 @@
--- The index spaces of a secondary module: what it imports from the primary one and then the functions of its own, and where each index of the module goes.
+-- The index spaces of a secondary module (its imports from the primary module, and then its own
+-- functions), and the new index of each entity of the module.
 use Rattle.base_lists.proofs.Common.{◌≡◌, ◌∙◌, ap, ap₂, sym, refl, ℕ, ◌+◌, ◌-◌, ◌<◌, List, [], ◌∷◌, ◌++◌, map, length, Option, Some, None, Bool, true, false, option_and_then, slice_get, slice_index, arith, true≢false, option_map, cons_option, length-append, length-map, map-append, filter_map-append}
 use Rattle.base_lists.proofs.Common.{get_or_from_slice_get, slice_get_within, every_at, length-numbers, numbers_at, numbers_index, and_then_is, append_at_left, append_right, map_at, map_from, push_last, slice_get_there, all_counted, map_stays, index_left, index_right}
 use Rattle.base_lists.proofs.Filtered.{all_chosen}
@@ -39,7 +40,7 @@ module _ (names : SplitNames) (m : Module) (holds : ItemsHold m) (moved own : Li
 
   -- ---- imports ----
 
-  -- what imports with new indices add to a space
+  -- The entities that renumbered imports add to an index space.
   abbrev adds : {B : Type 0} → (ImportDesc → Option B) → List Import → List B
   adds h xs = filter_map (λ i. h i.desc) (map (new_import r) xs)
 
@@ -68,7 +69,7 @@ module _ (names : SplitNames) (m : Module) (holds : ItemsHold m) (moved own : Li
   abbrev from : Space → List Import
   from space = imports_from_primary names.import_namespace names.export_prefix m space (from_primary m moved own space)
 
-  -- by kind: functions, tables, the slot table, memories, globals
+  -- The imports in their order: functions, tables, the slot table, memories, globals.
   all_added : {B : Type 0} (h : ImportDesc → Option B) (fs ts ms gs : List B) →
       filter_map (new_kind h) (kept (marks Functions) (entities m Functions)) ≡ fs → filter_map (new_kind h) (kept (marks Tables) (entities m Tables)) ≡ ts →
       filter_map (new_kind h) (kept (marks Memories) (entities m Memories)) ≡ ms → filter_map (new_kind h) (kept (marks Globals) (entities m Globals)) ≡ gs →
@@ -118,7 +119,8 @@ module _ (names : SplitNames) (m : Module) (holds : ItemsHold m) (moved own : Li
 
   -- ---- where what is imported goes ----
 
-  -- what stays: all types, and what the own functions name from the primary module
+  -- The indices that stay: those of all types, and of the entities of the primary module that its
+  -- own functions name.
   abbrev pub stays : Indices
   stays Types = λ i. true
   stays Functions = is_from_primary moved (defined_at m own) Functions

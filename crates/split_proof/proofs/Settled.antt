@@ -1,4 +1,5 @@
--- Where a secondary module is loaded the runs stand at the same place still, with its functions in their slots.
+-- The states of both runs still correspond after a secondary module is loaded, with its functions
+-- in their slots.
 use Rattle.base_lists.proofs.Common.{◌≡◌, ◌∙◌, refl, sym, ap, ap₂, subst, ℕ, suc, ◌+◌, ◌-◌, ◌<◌, ◌≤◌, ◌⊎◌, inl, inr, ⊎_elim, List, [], ◌∷◌, ◌++◌, length, Some, Bool, true, false, ◌&&◌, nat_eq, arith, slice_get, slice_set, decimal, list_any, and_parts, cases_lt, eqb-true, decimal_injective}
 use Rattle.base_lists.proofs.Common.{length-append, length-map, list_any-append, slice_get_within, same_Some, length-numbers, numbers_at, and_then_is, append_at_left, append_left, append_right, map_at, set_at, set_other, either_true}
 use Rattle.base_lists.specs.Options.{◌>>=◌, all_there}
@@ -23,7 +24,7 @@ use Rattle.split_proof.proofs.Entries.{Laws}
 use Rattle.split_proof.proofs.LoadKeeps.{allows_more, loads_keep}
 use Rattle.split_proof.proofs.OwnSlots.{OwnsSlot, owns_slot, written_at, unwritten_at}
 
--- what the laws below say
+-- The laws that the lemmas of this file assume.
 pub record SettleLaws : Type 0 where
   pub begin : Laws
   pub load : LoadLaws
@@ -32,7 +33,7 @@ pub record SettleLaws : Type 0 where
   pub stores_stay : StoresStayRelated
   pub runs_stay : RunsStayRelated
 
--- a pair of those that are loaded
+-- A pair of the loaded functions belongs to one of the functions of the secondary module.
 pair_of : (env : Environment) (m : Module) (own : List ℕ) (from a c : ℕ) → list_any (λ p. nat_eq p.0 a && nat_eq p.1 c) (loaded_from env m own from) ≡ true → (p f : ℕ) × (slice_get own p ≡ Some f) × (a ≡ defined_address env m f) × (c ≡ from + p)
 pair_of env m [] from a c h = absurd (let k = h in cc)
 pair_of env m (f ∷ own) from a c h =
@@ -48,7 +49,7 @@ module _ (laws : SettleLaws) (namespace : ℕ → List ℕ) (names : SplitNames)
   abbrev pub w : LoaderWorld
   w = split_world namespace names m moved owns
 
-  -- with more that is loaded related code is related still
+  -- Related code stays related after more functions are loaded.
   pub code_wider : (loaded more : List (ℕ × ℕ)) {s t : Store} {u : _} {a c : ℕ} → CodeAt (split_pairing env m moved loaded) s t u a c → CodeAt (split_pairing env m moved (loaded ++ more)) s t u a c
   code_wider loaded more k = record {
     first_inst = k.first_inst;
@@ -64,7 +65,7 @@ module _ (laws : SettleLaws) (namespace : ℕ → List ℕ) (names : SplitNames)
   pub runs_wider : (loaded more : List (ℕ × ℕ)) (r q : Run) → RunsRelated (split_pairing env m moved loaded) r q → RunsRelated (split_pairing env m moved (loaded ++ more)) r q
   runs_wider loaded more r q h = laws.runs_stay (is_partner env m moved) (is_partner env m moved) (moved_addresses env m moved) (may_stand env m moved loaded) (may_stand env m moved (loaded ++ more)) (allows_more env m moved loaded more) r q h
 
-  -- a function of the second that stays
+  -- Related code stays related where the second store keeps its functions.
   code_later : {R : Pairing} {s t y : Store} {u : _} {a c : ℕ} → ((a : ℕ) (f : _) → slice_get t.funcs a ≡ Some f → slice_get y.funcs a ≡ Some f) → CodeAt R s t u a c → CodeAt R s y u a c
   code_later {c = c} h k = record { first_inst = k.first_inst; second_inst = k.second_inst; locals = k.locals; first_code = k.first_code; second_code = k.second_code; first = k.first; second = h c _ k.second; related = k.related }
 
@@ -83,7 +84,7 @@ module _ (laws : SettleLaws) (namespace : ℕ → List ℕ) (names : SplitNames)
     pub module_is : slice_get w.secondaries k ≡ Some module_loaded
     module_is = x.is
 
-    -- the store after the load
+    -- The store after the load.
     abbrev pub after : Store
     after = loads.added.filled.store
 
@@ -112,13 +113,13 @@ module _ (laws : SettleLaws) (namespace : ℕ → List ℕ) (names : SplitNames)
     references_many : length (references count (length x.own)) ≡ length x.own
     references_many = length-map (numbers count (length x.own)) (λ a. FuncRef (Some a)) ∙ length-numbers count (length x.own)
 
-    -- the functions of this secondary module by slot
+    -- The function of a slot in the range of this secondary module is one of its own.
     own_at : (p f : ℕ) → slice_get moved p ≡ Some f → x.before ≤ p → p < x.before + length x.own → slice_get x.own (p - x.before) ≡ Some f
     own_at p f at low high =
         let e : p ≡ length x.slots.earlier + (p - x.before) = (let c = x.slots.count in omega (arith, low, c)) in
         sym (append_left x.own x.slots.later (p - x.before) (omega (arith, low, high))) ∙ sym (append_right x.slots.earlier (x.own ++ x.slots.later) (p - x.before)) ∙ ap₂ (λ fs n. slice_get fs n) (sym x.slots.all) (sym e) ∙ at
 
-    -- a slot of the same module is in the same range
+    -- Two slots of one secondary module are in the same range.
     same_range : (p : ℕ) (y : OwnsSlot namespace names m moved 0 owns p k) → (x.before ≡ y.before) × (length x.own ≡ length y.own)
     same_range p y =
         let same = ap (λ (s : Secondary). s.placeholders) (same_Some _ _ (sym x.is ∙ y.is)) in
@@ -146,7 +147,7 @@ module _ (laws : SettleLaws) (namespace : ℕ → List ℕ) (names : SplitNames)
             let more = length-append s.earlier (own ++ s.later) in
             omega (arith, c, all, more)
 
-    -- what a slot holds then
+    -- The function in a slot after the load.
     slot_then : (p f : ℕ) → slice_get moved p ≡ Some f → SlotIs env m moved w (loaded ++ more) r.store settled_run (record h.funcs.table { slots = written.0 }) p f
     slot_then p f at = by (h.funcs.slots p f at)
       where

@@ -1,4 +1,5 @@
--- A function that a secondary module imports is left in the primary one: one that moves is imported only where a body names it by `ref.func`.
+-- A function that a secondary module imports is left in the primary module: a moved one is imported
+-- only where a body names it by `ref.func`.
 use Rattle.base_lists.proofs.Common.{◌≡◌, ◌∙◌, ap, sym, refl, ℕ, ◌-◌, ◌<◌, Some, arith, length, List, [], ◌∷◌, ◌++◌, map, Bool, true, false, ◌&&◌, ◌||◌, not, nat_eq, ⊎_elim, slice_get, true≢false, cons_option, flat_map, list_any, flat_map-append, map-append, list_any_there, chosen_from, place_back}
 use Rattle.base_lists.proofs.Common.{numbers_is, map_from, cases_Bool, either_true, left_either, right_either, same_number, among_left, among_right, among_joined, ap₂, cond, Option, None, filter_map}
 use Rattle.base_lists.specs.Members.{is_among}
@@ -20,13 +21,14 @@ module _ (moved : List ℕ) (x : ℕ) (moves : is_among moved x ≡ true) where
   abbrev Named : Instr → Type 0
   Named i = operand_passes test i ≡ true → is_among (refs i) x ≡ true
 
-  -- in what a block holds
+  -- The case of a list of instructions.
   all_named : (is : List Instr) → Every Named is → list_any (λ b. b) (map (operand_passes test) is) ≡ true → is_among (refs_all is) x ≡ true
   all_named [] p h = cc
   all_named (i ∷ is) p h =
       ⊎_elim (λ e. among_left (refs i) (refs_all is) x (p.0 e)) (λ e. among_right (refs i) (refs_all is) x (all_named is p.1 e)) (either_true (operand_passes test i) (list_any (λ b. b) (map (operand_passes test) is)) h)
 
-  -- an operand that shares the function is one of `ref.func`, since calls of functions that move do not share them
+  -- An operand for which a moved function is shared is that of a `ref.func`, since calls do not
+  -- share moved functions.
   own_named : (os : List Operand) → list_any test os ≡ true → is_among (filter_map referred os) x ≡ true
   own_named [] h = cc
   own_named (o ∷ os) h = by (same_space o.space Functions) (nat_eq o.index x) refl o.called (own_named os) h
@@ -67,7 +69,7 @@ shared_left m moved x h =
     (λ e. left_either (not (is_among moved x)) (is_needed m x) (ap not e))
     (cases_Bool (is_among moved x))
 
--- an index that is imported is one of the space
+-- An imported index is one of the index space.
 pub shared_within : (m : Module) (moved own : List ℕ) (space : Space) (n i : ℕ) → slice_get (from_primary m moved own space) n ≡ Some i → (i < length (entities m space)) × (is_from_primary moved (defined_at m own) space i ≡ true)
 shared_within m moved own space n i at =
     let p = place_back (λ b. b) (marks_from_primary m moved own space) 0 n i at in

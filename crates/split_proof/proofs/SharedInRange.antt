@@ -1,4 +1,5 @@
--- What both modules of a split have: the slot table and a segment of it; and how many entities of the module there are to export or import.
+-- The numbers of the slot table and of its segment are in range, and bounds on the numbers of
+-- entities to export or import.
 use Rattle.base_lists.proofs.Common.{ℕ, ◌<◌, ◌^◌, List, length, arith, pos, ints, length-map}
 use Rattle.base_lists.proofs.Every.{every_of, every_map}
 use Rattle.base_lists.specs.Every.{Every}
@@ -10,7 +11,7 @@ use Rattle.wasm_write_proof.specs.Ranges.{LimitsInRange}
 use Rattle.merge_encode_proof.specs.Numbers.{ConstNumberInRange, ElemNumbersInRange, OwnNumbersAreInRange, RenumberedNumbersAreInRange, DeclaredNumbersAreInRange}
 use Rattle.split_spec.specs.Prelude.{slot_segment, slot_table_type, entities}
 
--- what the laws below say
+-- The laws that the lemmas of this file assume.
 pub record NumberLaws : Type 0 where
   pub own : OwnNumbersAreInRange
   pub renumbered : RenumberedNumbersAreInRange

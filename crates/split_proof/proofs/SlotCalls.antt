@@ -1,4 +1,5 @@
--- A call through a slot, with other indices, has the type of the function; and what is put into the slots is a function reference.
+-- A renumbered call through a slot has the type of the function, and the values of the slots are
+-- function references.
 use Rattle.base_lists.proofs.Common.{lt-ltb, ◌≡◌, ◌∙◌, ap, ap₂, sym, subst, ℕ, length, Some, slice_get, slice_index, map, ◌+◌, ◌<◌, arith, pos, slice_get_within, numbers_index, length-numbers, numbers_at, slice_index_is, map_from}
 use Rattle.base_lists.specs.Places.{numbers}
 use Rattle.wasm_tree.specs.declared.types.RefType.TheVariants.{Func as func_ref}
@@ -14,7 +15,7 @@ use Rattle.split_proof.proofs.Typed.{slot_call_renumbered, slot_call_typed}
 module _ (r : Remap) (m u : Module) (f ty slot : ℕ) (t : FuncType) (types_stay : r.types ≡ numbers 0 (length m.types)) (types_same : u.types ≡ m.types)
     (slots : slice_get (table_types u) (slice_index r.tables (slot_table m)) ≡ Some func_ref) (at : slice_get (funcs_of m) f ≡ Some ty) (is : slice_get m.types ty ≡ Some t)
   where
-    -- the place of its type stays
+    -- The type index of the function stays.
     pub type_stays : slice_index r.types (type_index m f) ≡ ty
     type_stays = ap (λ ts. slice_index ts (type_index m f)) types_stay ∙ ap (slice_index (numbers 0 (length m.types))) (slice_index_is (funcs_of m) f ty at) ∙ numbers_index (length m.types) ty (slice_get_within m.types ty t is)
 
@@ -29,7 +30,8 @@ module _ (r : Remap) (m u : Module) (f ty slot : ℕ) (t : FuncType) (types_stay
         subst (λ z. WellTyped d z t.params t.results) (sym (slot_call_renumbered r (type_index m f) (slot_table m) (pos slot)))
         (slot_call_typed d (slice_index r.types (type_index m f)) (slice_index r.tables (slot_table m)) (pos slot) t (type_new d types) (slots_new d tables))
 
--- what is in a slot, where its new index is one of the function space
+-- The value of a slot is a function reference, where its new index is in the index space of
+-- functions.
 pub slot_typed : (r : Remap) (m u : Module) (count : ℕ) → ((j : ℕ) → j < count → slice_index r.funcs (length (funcs_of m) + j) < length (funcs_of u)) →
     (j : ℕ) (e : ConstExpr) → slice_get (map (new_const r) (map const.Func (in_slots m count))) j ≡ Some e → const_type u e ≡ Some (Ref func_ref)
 slot_typed r m u count inside j e at =

@@ -1,4 +1,5 @@
--- Small modules that are split, and what is seen of them and under the loader, computed: a load in a call, in a start, while another call waits, and never.
+-- Traces of small modules and of their splits under the loader, by computation: with a load in a
+-- call, in a start function, while another call waits, and without a load.
 use Rattle.base_lists.proofs.Common.{◌≡◌, refl, ap, ◌∙◌, ℕ, ◌+◌, List, [], ◌∷◌, Some, None, rules, pos}
 use Rattle.std.specs.Fmt.{digits}
 use Rattle.wasm_num.specs.declared.BinOp.TheVariants.{I32Sub}
@@ -17,7 +18,7 @@ use Rattle.split_proof.specs.Worlds.{in_place_of, split_world, pair_world}
 
 -- ---- what is common ----
 
--- the names a, f, g and own
+-- The names a, f, g and own.
 abbrev pub a : Text
 a = 97 ∷ []
 
@@ -30,7 +31,7 @@ g = 103 ∷ []
 abbrev pub own : Text
 own = 111 ∷ 119 ∷ 110 ∷ []
 
--- the environment has the function f of own
+-- The environment provides the function f of the namespace own.
 abbrev pub own_function : Import
 own_function = import own f (im.Func 0)
 
@@ -43,17 +44,17 @@ asks = Asked (own, f) nothing []
 abbrev pub number : ℕ → Event
 number n = Returned (Number n ∷ [])
 
--- one secondary module, with a placeholder of this type
+-- One secondary module, with a placeholder of this type.
 abbrev pub one_slot : FuncType → Module → List Secondary
 one_slot ty second = record { «module» = second; placeholders = ((placeholder_word, 48 ∷ []), ty) ∷ [] } ∷ []
 
--- with two
+-- One secondary module, with two placeholders of this type.
 abbrev pub two_slots : FuncType → Module → List Secondary
 two_slots ty second = record { «module» = second; placeholders = ((placeholder_word, 48 ∷ []), ty) ∷ ((placeholder_word, 49 ∷ []), ty) ∷ [] } ∷ []
 
 -- ---- a function that is exported ----
 
--- exported as f
+-- The function is exported as f.
 abbrev pub subtracting : Module
 subtracting = record empty { types = takes_two ∷ []; funcs = func 0 (i.LocalGet 0 ∷ i.LocalGet 1 ∷ i.Bin I32Sub ∷ []) ∷ []; exports = export f (ex.Func 0) ∷ [] }
 
@@ -76,7 +77,7 @@ pub subtracting_is_split : pair_world names subtracting (0 ∷ []) ≡ subtracti
 unfolding primary_with secondary_with digits
 subtracting_is_split = search (rules, the_lemmas)
 
--- it is got, called by its name and by its number, and got again
+-- The embedder takes the function, calls it by its name and by its number, and takes it again.
 abbrev subtractions : List Move
 subtractions = Take f ∷ (Call f (Number 5 ∷ (Number 3 ∷ [])) ∷ (Invoke 0 (Number 9 ∷ (Number 2 ∷ [])) ∷ (Take f ∷ [])))
 
@@ -94,14 +95,14 @@ it_is_seen_under_the_loader = refl
 the_split_is_seen_so : events_loaded (pair_world names subtracting (0 ∷ [])) [] subtractions 40 ≡ differences
 the_split_is_seen_so = ap (λ w. events_loaded w [] subtractions 40) subtracting_is_split ∙ it_is_seen_under_the_loader
 
--- the slots make no difference to the trace
+-- The slot table is not visible to the embedder.
 the_slots_have_no_name : events_loaded subtracting_world [] (Size (Named slots_word) ∷ []) 10 ≡ Linked ∷ (BadMove ∷ [])
 unfolding out-Instr denote.Hole.Carrier.out wrapped
 the_slots_have_no_name = refl
 
 -- ---- a function that is only called ----
 
--- the pair of `calling`, of which the second function moves
+-- The split of `calling`, of which the second function moves.
 abbrev pub calling_world : LoaderWorld
 calling_world = in_place_of calling calling_primary (one_slot gives_number calling_secondary)
 
@@ -109,7 +110,7 @@ pub calling_is_split : pair_world names calling (1 ∷ []) ≡ calling_world
 unfolding primary_with secondary_with digits
 calling_is_split = search (rules, the_lemmas)
 
--- the first call loads, the second finds it loaded
+-- The first call loads the secondary module, and the second does not.
 two_calls_are_seen : events (alone calling) [] (Call f [] ∷ (Call f [] ∷ [])) 20 ≡ Linked ∷ (number 7 ∷ (number 7 ∷ []))
 unfolding out-Instr denote.Hole.Carrier.out wrapped
 two_calls_are_seen = refl
@@ -121,14 +122,15 @@ two_calls_are_computed = refl
 two_calls_are_seen_under_the_loader : events_loaded (pair_world names calling (1 ∷ [])) [] (Call f [] ∷ (Call f [] ∷ [])) 40 ≡ Linked ∷ (number 7 ∷ (number 7 ∷ []))
 two_calls_are_seen_under_the_loader = ap (λ w. events_loaded w [] (Call f [] ∷ (Call f [] ∷ [])) 40) calling_is_split ∙ two_calls_are_computed
 
--- nothing is called, and nothing loaded
+-- Without a call nothing is loaded.
 no_call_is_seen : events_loaded calling_world [] (Take f ∷ (Take g ∷ [])) 20 ≡ Linked ∷ (Got (Function 0) ∷ (BadMove ∷ []))
 unfolding out-Instr denote.Hole.Carrier.out wrapped
 no_call_is_seen = refl
 
 -- ---- a call while another waits ----
 
--- a calls the environment's function and then function 2, which is exported as g and moves
+-- The function a calls the environment's function and then function 2, which is exported as g and
+-- moves.
 abbrev pub waiting : Module
 waiting = record empty {
   types = nothing ∷ (gives_number ∷ []);
@@ -156,7 +158,7 @@ waiting_is_split : pair_world names waiting (2 ∷ []) ≡ waiting_world
 unfolding primary_with secondary_with digits
 waiting_is_split = search (rules, the_lemmas)
 
--- the embedder calls g while its own function waits, and that call loads
+-- The embedder calls g while its own function waits, and this call loads the secondary module.
 abbrev in_between : List Move
 in_between = Call a [] ∷ (Call g [] ∷ (Answer [] ∷ []))
 
@@ -174,14 +176,14 @@ a_call_in_between_is_computed = refl
 a_call_in_between_loads : events_loaded (pair_world names waiting (2 ∷ [])) offering in_between 40 ≡ asked_and_answered
 a_call_in_between_loads = ap (λ w. events_loaded w offering in_between 40) waiting_is_split ∙ a_call_in_between_is_computed
 
--- an environment without that function links neither
+-- An environment without the function own.f links neither the module nor its split.
 neither_is_linked : (events (alone waiting) [] [] 5 ≡ LinkFault ∷ []) × (events_loaded waiting_world [] [] 5 ≡ LinkFault ∷ [])
 unfolding out-Instr denote.Hole.Carrier.out
 neither_is_linked = (refl, refl)
 
 -- ---- a start ----
 
--- the start moves; it calls the environment's function
+-- The start function moves, and it calls the environment's function.
 abbrev starting : Module
 starting = record empty { types = nothing ∷ []; imports = own_function ∷ []; funcs = func 0 (i.Call 0 ∷ []) ∷ []; start = Some 1 }
 
@@ -223,7 +225,7 @@ the_start_loads = ap (λ w. events_loaded w offering (Answer [] ∷ []) 40) star
 
 -- ---- a trap ----
 
--- f traps, and moves
+-- The function f traps, and moves.
 abbrev trapping : Module
 trapping = record empty { types = nothing ∷ []; funcs = func 0 (i.Unreachable ∷ []) ∷ []; exports = export f (ex.Func 0) ∷ [] }
 
@@ -256,7 +258,8 @@ the_traps_are_seen_under_the_loader = ap (λ w. events_loaded w [] (Call f [] �
 
 -- ---- two secondary modules ----
 
--- both functions of `calling` move, each to a secondary module of its own: the first loads, and calls through the slot of the other, which loads then
+-- Both functions of `calling` move, each to a secondary module of its own: the first module is
+-- loaded and calls through the slot of the other, which is loaded then.
 abbrev two_primary : Module
 two_primary = record calling {
   imports = import (numbered_placeholder 48) (48 ∷ []) (im.Func 0) ∷ import (numbered_placeholder 49) (49 ∷ []) (im.Func 0) ∷ [];

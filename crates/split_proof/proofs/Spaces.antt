@@ -1,4 +1,5 @@
--- What the items of a valid module say of its index spaces: each entity is such as an import of it may describe (WebAssembly Core 2.0, section 3.4.9).
+-- The entities of the index spaces of a valid module can be imported: each satisfies the conditions
+-- of a valid import (WebAssembly Core 2.0, section 3.4.9).
 use Rattle.base_lists.proofs.Common.{◌≡◌, ◌∙◌, ap, sym, subst, ℕ, ◌<◌, List, [], ◌∷◌, ◌++◌, append-nil, map, length, Option, Some, true, ⊎_elim, slice_get, ◌+◌, ◌-◌, ◌≤◌, false, arith, slice_get_within, chosen_from, nat_le, nat_lt, option_map_or, leb-true, ltb-true, length-append, length-map}
 use Rattle.base_lists.proofs.Common.{left_true, right_true, append_right, map_at, slice_get_there, append_from, map_from}
 use Rattle.std.proofs.Common.{filter_map}
@@ -14,7 +15,7 @@ use Rattle.split_plan.specs.Segments.{names_segment, uses_segment}
 use Rattle.split_plan.specs.NamedFunctions.{is_defined}
 use Rattle.split_plan.specs.Plans.{body_uses_segment}
 
--- a module with its references declared has the same, and perhaps one segment more
+-- A module with declared references differs only by at most one more segment.
 pub declared_keeps : (t : Module) → IsWithDeclared t (declared t) (declared_refs t)
 declared_keeps t = by (declared_refs t)
   where
@@ -22,7 +23,7 @@ declared_keeps t = by (declared_refs t)
     by [] = assumption (sym (append-nil t.elems))
     by (f ∷ fs) = assumption
 
--- a function that can move is defined, and its body names no segment
+-- A function that can move is defined, and its body names no segment.
 pub record Moves (m : Module) (f : ℕ) : Type 0 where
   pub func : Func
   pub is : slice_get m.funcs (f - length (imported_funcs m.imports)) ≡ Some func
@@ -71,7 +72,7 @@ module _ (m : Module) (holds : ItemsHold m) where
       let same : z.0 ≡ x = cc in
       subst (λ (y : Import). ImportHolds m y.desc) same z.2
 
-  -- what is imported, and then what is defined
+  -- The case of each index space: its imports, and then its definitions.
   space_holds : {A : Type 0} (of : ImportDesc → Option A) (c : A → ImportDesc) (defined : List A) → ((d : ImportDesc) (a : A) → of d ≡ Some a → d ≡ c a) → ((j : ℕ) (a : A) → slice_get defined j ≡ Some a → ImportHolds m (c a)) →
       (i : ℕ) (a : A) → slice_get (filter_map (λ x. of x.desc) m.imports ++ defined) i ≡ Some a → ImportHolds m (c a)
   space_holds of c defined is own i a at =

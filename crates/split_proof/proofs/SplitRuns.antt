@@ -1,4 +1,5 @@
--- A split module shows under its loader what the module shows alone, where each call of a function that moves is answered.
+-- A split module under its loader has the traces of the module alone, where each call of a moved
+-- function is answered.
 use Rattle.base_lists.proofs.Common.{◌≡◌, ◌∙◌, refl, ap, sym, subst, ℕ, ◌+◌, ◌*◌, List, [], Option, Some, None, Bool, true, false, arith}
 use Rattle.std.specs.List.{cons_option}
 use Rattle.base_simulation.specs.Machines.{IsPrefix, events_of}
@@ -32,12 +33,13 @@ module _ (laws : Laws) (steps : StepLaws) (alike : InstancesOfSplitsAreRelated) 
   abbrev most : ℕ
   most = most_params m moved
 
-  -- each call of a function that moves is answered
+  -- Each call of a moved function is answered.
   abbrev pub EachCallAnswered : Type 0
   EachCallAnswered = (i j : Inst) → InstancesAreRelated env m moved i j → CallsAnswered steps env m moved w i j (one_to_one namespace names.export_prefix m valid moved g.can_move env) most
 
   module _ (calls : EachCallAnswered) (moves : List Move) where
-    -- where the two runs stand: at the beginning; or both over, as one run or related; or at the same place
+    -- The relation between the two runs: both at the beginning; both over, and equal or related; or
+    -- in corresponding states.
     data Place (r : Run) (q : LoaderRun) : Type 0 where
       fresh : r ≡ fresh_run env (instantiate env (alone m)) moves → q ≡ fresh_loader env w moves → Place r q
       as_one : IsOver r → q.run ≡ r → Place r q
@@ -123,7 +125,7 @@ module _ (laws : Laws) (steps : StepLaws) (alike : InstancesOfSplitsAreRelated) 
     seen : (n : ℕ) → IsPrefix (events (alone m) env moves n) (events_loaded w env moves ((most + 3) * n)) × IsPrefix (events_loaded w env moves n) (events (alone m) env moves n)
     seen n = stuttering_simulation tick (tick_loader w) (most + 3) Place next (fresh_run env (instantiate env (alone m)) moves) (fresh_loader env w moves) (fresh refl refl) n
 
-    -- with steps to spare
+    -- The equivalence, with the larger number of steps that the law allows.
     pub shows : (n : ℕ) → IsPrefix (events (alone m) env moves n) (events_loaded w env moves ((most + 8) * (n + 1))) × IsPrefix (events_loaded w env moves n) (events (alone m) env moves n)
     shows n =
         let s = seen n in

@@ -1,4 +1,5 @@
--- Steps that begin no call of a function that moves, and steps in which both go wrong, are answered; and runs that are over.
+-- Steps that begin no call of a moved function are answered, and so are steps in which both runs
+-- fail.
 use Rattle.base_lists.proofs.Common.{◌≡◌, ◌∙◌, refl, ap, sym, subst, ℕ, zero, suc, List, [], ◌∷◌, false, arith, slice_get}
 use Rattle.std.specs.List.{cons_option}
 use Rattle.base_simulation.specs.Machines.{state_after}
@@ -20,7 +21,7 @@ use Rattle.split_proof.proofs.Entered.{funcs_stay}
 use Rattle.split_proof.proofs.LoadKeeps.{slot_table_alone}
 use Rattle.split_proof.proofs.Plain.{no_placeholder_called}
 
--- what the laws below say
+-- The laws that the lemmas of this file assume.
 pub record StepLaws : Type 0 where
   pub between : PassingFramesStutter
   pub runs : LoadersGoAsTheirRun
@@ -44,7 +45,7 @@ module _ (laws : StepLaws) (env : Environment) (m : Module) (moved : List ℕ) (
   known (Running f ∷ es) (Running g ∷ fs) = top_known S (λ space a b related. related) f.inst g.inst f.levels g.levels
   known _ _ = tt
 
-  -- a step of related runs that begins no such call, where it calls no placeholder
+  -- A step of related runs that begins no call of a moved function and calls no placeholder.
   pub in_two : (r q : Run) → RunsRelated S r q → TickSkips S r r.entries → AnsweredInTwo S r q
   in_two r q h free = laws.between (is_partner env m moved) (is_partner env m moved) (moved_addresses env m moved) (may_stand env m moved loaded) (apart loaded) r q h free (known r.entries q.entries)
 
@@ -52,7 +53,7 @@ module _ (laws : StepLaws) (env : Environment) (m : Module) (moved : List ℕ) (
   goes r q a plain = laws.runs w q (suc a.further) (λ k lt. a.plain plain k (omega (arith, lt)))
 
 module _ (laws : StepLaws) (env : Environment) (m : Module) (moved : List ℕ) (w : LoaderWorld) (first second : Inst) (apart : (loaded : List (ℕ × ℕ)) → OneToOne (split_pairing env m moved loaded)) (most : ℕ) where
-  -- the primary module's instance stays typed
+  -- The instance of the primary module stays well typed.
   typed_after : (n : ℕ) (q : LoaderRun) → IsBegun q.run.phase → IsTyped w.primary second q.run.store → IsTyped w.primary second (state_after (tick_loader w) q n).run.store
   typed_after zero q begun typed = typed
   typed_after (suc n) q begun typed =
@@ -106,7 +107,7 @@ module _ (laws : StepLaws) (env : Environment) (m : Module) (moved : List ℕ) (
 
   -- ---- any step ----
 
-  -- the two cases in which a call of a function that moves begins
+  -- The two cases in which a call of a moved function begins.
   pub record CallsAnswered : Type 0 where
     pub enters : (loaded : List (ℕ × ℕ)) (r : Run) (q : LoaderRun) → Corresponds env m moved w first second loaded r q → EntersInBoth (split_pairing env m moved loaded) r q.run → StepAnswered env m moved w first second most r q
     pub instead : (loaded : List (ℕ × ℕ)) (r : Run) (q : LoaderRun) → Corresponds env m moved w first second loaded r q → ReplacementCode (split_pairing env m moved loaded) r q.run → StepAnswered env m moved w first second most r q

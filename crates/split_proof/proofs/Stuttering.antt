@@ -1,4 +1,4 @@
--- Stuttering steps of a run under a loader, and what so many steps of the machine are as steps of it.
+-- Stuttering steps of a run under a loader, and the steps of the machine that they consist of.
 use Rattle.base_lists.proofs.Common.{◌≡◌, ◌∙◌, refl, ap, sym, ℕ, zero, suc, ◌≤◌, List, [], ◌∷◌, None, Option, arith}
 use Rattle.std.specs.List.{cons_option}
 use Rattle.base_simulation.specs.Machines.{Machine, events_of, state_after}
@@ -20,7 +20,7 @@ module _ {S E : Type 0} (t : Machine S E) where
   stuttering_events here = refl
   stuttering_events {n = suc n} (before e rest) = ap (λ o. cons_option o.1 (events_of t o.0 n)) e ∙ stuttering_events rest
 
-  -- one step more
+  -- The state after a number of stuttering steps and one more step.
   pub last_state : {n : ℕ} {s q : S} {o : S × Option E} → StutteringSteps t n s q → t q ≡ o → state_after t s (suc n) ≡ o.0
   last_state here f = ap (λ o. o.0) f
   last_state {n = suc n} (before e rest) f = ap (λ o. state_after t o.0 (suc n)) e ∙ last_state rest f
@@ -31,11 +31,11 @@ module _ {S E : Type 0} (t : Machine S E) where
 
 -- ---- steps of the machine ----
 
--- the run with this stack
+-- The run with this store and stack.
 abbrev pub at : Run → Store → List Entry → Run
 at r s es = record r { store = s; entries = es }
 
--- a step of the machine that gives something is the step of the run
+-- A step of the machine that does not trap is the step of the run.
 pub step_is : (r : Run) (s : Store) (es : List Entry) (n : Next) → step s es ≡ Gives n → transition (at r s es) ≡ Steps (at r s es) (Gives n)
 step_is r s (Running f ∷ es) n e = ap (Steps (at r s (Running f ∷ es))) e
 step_is r s [] n e = cc
@@ -45,11 +45,11 @@ step_is r s (Waiting ts ∷ es) n e = cc
 step_is r s (Ended vs ∷ es) n e = cc
 step_is r s (Growing g ∷ es) n e = cc
 
--- what goes on is one stuttering step under the loader
+-- A step of the run that shows no event is one stuttering step under the loader.
 pub ran_is : (w : LoaderWorld) (q : LoaderRun) (x y : Run) (s : Store) (es : List Entry) → transition x ≡ Steps y (Gives (Ran s es)) → tick_loader w (record q { run = x }) ≡ (record q { run = at y s es }, None)
 ran_is w q x y s es e = ap (loader_made w (record q { run = x })) e
 
--- it goes on to a stack, or comes to something else before
+-- The run makes this number of stuttering steps, or has another outcome before that.
 pub data Reaches (w : LoaderWorld) (q : LoaderRun) (r : Run) (n : ℕ) (s : Store) (es : List Entry) (o : Outcome Next) : Type 0 where
   whole : (t : Store) (fs : List Entry) → StutteringSteps (tick_loader w) n (record q { run = at r s es }) (record q { run = at r t fs }) → o ≡ Gives (Ran t fs) → Reaches w q r n s es o
   part : (k : ℕ) → suc k ≤ n → (t : Store) (fs : List Entry) → StutteringSteps (tick_loader w) k (record q { run = at r s es }) (record q { run = at r t fs }) → step t fs ≡ o → ((u : Store) (gs : List Entry) → o ≡ Gives (Ran u gs) → ⊥) → Reaches w q r n s es o

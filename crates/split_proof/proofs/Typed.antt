@@ -1,4 +1,5 @@
--- The types of a call, of a call through a slot and of a trampoline's body (WebAssembly Core 2.0, sections 3.3.8 and 3.3.9).
+-- The types of a call, of a call through a slot and of a trampoline's body (WebAssembly Core 2.0,
+-- sections 3.3.8 and 3.3.9).
 use Rattle.base_lists.proofs.Common.{◌≡◌, ◌∙◌, ap, ap₂, sym, subst, refl, ℕ, suc, ◌+◌, List, [], ◌∷◌, ◌++◌, map, reverse, Option, Some, None, option_and_then, slice_get, arith, rules, append_assoc, ℤ, option_map, slice_index, map-append, reverse-append}
 use Rattle.std.proofs.lemmas.List.{append-nil}
 use Rattle.wasm_tree_spec.specs.Prelude.{RefType, ValType, I32, FuncType, Instr, the_lemmas, Call, CallIndirect, LocalGet}
@@ -48,7 +49,7 @@ slot_call_typed d ty table slot t a b = (operands t.results, slot_leads d ty tab
 
 -- ---- a trampoline ----
 
--- what leads on from the operands of these types leads on from where they are pushed
+-- The instructions that get the parameters push operands of their types.
 gets_lead : (d : Context) (n : ℕ) (ts : List ValType) (is : List Instr) (s u : Stack) → ((i : ℕ) (t : ValType) → slice_get ts i ≡ Some t → slice_get d.locals (n + i) ≡ Some t) → LeadsAll d is (operands ts ++ s) u → LeadsAll d (gets n ts ++ is) s u
 gets_lead d n [] is s u there h = h
 gets_lead d n (t ∷ ts) is s u there h =
@@ -61,7 +62,7 @@ gets_lead d n (t ∷ ts) is s u there h =
       gets_lead d (suc n) ts is (Some t ∷ s) u (λ i v k. let q : suc n + i ≡ n + suc i = omega arith in ap (slice_get d.locals) q ∙ there (suc i) v k) (subst (λ z. LeadsAll d is z u) (sym last) h),
     )
 
--- where the parameters are the first locals
+-- The body of a trampoline has the type of its function, where the parameters are the first locals.
 pub trampoline_typed : (d : Context) (ty table : ℕ) (slot : ℤ) (t : FuncType) → slice_get d.types ty ≡ Some t → slice_get d.tables table ≡ Some func_ref → ((i : ℕ) (v : ValType) → slice_get t.params i ≡ Some v → slice_get d.locals i ≡ Some v) →
     WellTyped d (gets 0 t.params ++ slot_call ty table slot) [] t.results
 trampoline_typed d ty table slot t a b locals =

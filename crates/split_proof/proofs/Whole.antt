@@ -1,4 +1,5 @@
--- Both modules of a split are valid, have no memory more than the module, and what they have can be counted.
+-- Both modules of a split are valid, have at most one memory if the module has, and have bounded
+-- counts.
 use Rattle.base_lists.proofs.Common.{◌≡◌, ap, sym, subst, ℕ, ◌<◌, ◌≤◌, List, length, None, true, arith}
 use Rattle.std.proofs.lemmas.List.{append-nil}
 use Rattle.base_kept.proofs.Laws.{kept_most}
@@ -22,7 +23,7 @@ use Rattle.split_proof.proofs.PrimarySpaces as primary_spaces
 use Rattle.split_proof.proofs.SecondaryItems as secondary
 use Rattle.split_proof.proofs.SecondarySpaces as secondary_spaces
 
--- what the laws below say
+-- The laws that the lemmas of this file assume.
 pub record Laws : Type 0 where
   pub bodies : BodyLaws
   pub items : ValidWhereItemsHold

@@ -1,4 +1,4 @@
--- Splits that are wrong, and a view that is: a trace of one is no trace of the module, by computation.
+-- Wrong splits and a wrong view, each with a trace that is no trace of the module, by computation.
 use Rattle.base_lists.proofs.Common.{◌≡◌, refl, sym, ap, subst, ℕ, zero, ◌+◌, ◌*◌, arith, List, [], ◌∷◌, Bool, true, false, pos, nat_eq}
 use Rattle.wasm_tree.specs.declared.instr.Instr.{out-Instr}
 use Rattle.wasm_tree.specs.declared.instr.Instr.TheVariants as i
@@ -16,18 +16,20 @@ use Rattle.split_proof.specs.Worlds.{in_place_of}
 use Rattle.split_proof.specs.Laws.{ObservationallyEquivalent}
 use Rattle.split_proof.proofs.SmallRuns.{f, g, number, one_slot, two_slots, subtracting, subtracting_primary, subtracting_secondary, subtracting_world}
 
--- Where what is seen of a world in so many steps does not begin what is seen of the module in as many, it does not behave as the module.
+-- A world is not equivalent to the module where its events in some number of steps are no prefix of
+-- those of the module in as many.
 refused : (m : Module) (w : LoaderWorld) (most : ℕ) (moves : List Move) (n : ℕ) (xs ys : List Event) →
     events_loaded w [] moves n ≡ xs → events (alone m) [] moves n ≡ ys → (IsPrefix xs ys → ⊥) → ObservationallyEquivalent m w most → ⊥
 refused m w most moves n xs ys seen shown apart same = apart (rw (← seen) (rw (← shown) (same [] refl tt moves n).1))
 
--- nor where what is seen of the module in so many steps does not begin what is seen of the world in as many as the law has
+-- A world is not equivalent to the module either where the events of the module are no prefix of
+-- those of the world in as many steps as the law allows.
 refused_later : (m : Module) (w : LoaderWorld) (most : ℕ) (moves : List Move) (n k : ℕ) (xs ys : List Event) → k ≡ (most + 8) * (n + 1) →
     events (alone m) [] moves n ≡ xs → events_loaded w [] moves k ≡ ys → (IsPrefix xs ys → ⊥) → ObservationallyEquivalent m w most → ⊥
 refused_later m w most moves n k xs ys steps seen shown apart same =
     apart (rw (← seen) (rw (← shown) (subst (λ j. IsPrefix (events (alone m) [] moves n) (events_loaded w [] moves j)) (sym steps) (same [] refl tt moves n).0)))
 
--- the second event gives this number
+-- The second event returns this number.
 abbrev gives_second : ℕ → List Event → Bool
 gives_second n (e ∷ (Returned (Number k ∷ []) ∷ es)) = nat_eq n k
 gives_second n es = false
@@ -70,7 +72,7 @@ a_view_with_the_slots_is_refused = refused subtracting with_slots 2 (Size (Named
 
 -- ---- slots filled with another function ----
 
--- f gives 7 and g gives 8, and both move
+-- The function f returns 7, g returns 8, and both move.
 abbrev two : Module
 two = record empty { types = gives_number ∷ []; funcs = func 0 (i.I32Const (pos 7) ∷ []) ∷ func 0 (i.I32Const (pos 8) ∷ []) ∷ []; exports = export f (ex.Func 0) ∷ export g (ex.Func 1) ∷ [] }
 
@@ -83,7 +85,7 @@ two_primary = record two {
   elems = segment 0 0 (const.Func 0 ∷ const.Func 1 ∷ []) ∷ [];
 }
 
--- its functions stand in the slots in this order
+-- The functions of the secondary module are in the slots in this order.
 abbrev in_order : (first second : ℕ) → LoaderWorld
 in_order first second = in_place_of two two_primary (two_slots gives_number (record empty { types = gives_number ∷ []; imports = slots_import 2 ∷ []; funcs = two.funcs; elems = segment 0 0 (const.Func first ∷ const.Func second ∷ []) ∷ [] }))
 
@@ -104,7 +106,7 @@ slots_in_reverse_are_refused = refused two (in_order 1 0) 0 (Call f [] ∷ []) 2
 
 -- ---- a secondary module that names its own function ----
 
--- f gives a reference to itself, and moves
+-- The function f returns a reference to itself, and moves.
 abbrev gives_reference : FuncType
 gives_reference = record { params = []; results = valt.Ref func_ref ∷ [] }
 
@@ -120,7 +122,7 @@ referring_primary = record referring {
   elems = segment 0 0 (const.Func 0 ∷ []) ∷ [];
 }
 
--- function 0 is the trampoline, which is imported, and function 1 its own
+-- Function 0 is the imported trampoline, and function 1 the own function of the secondary module.
 abbrev naming : ℕ → LoaderWorld
 naming func_named = in_place_of referring referring_primary
     (one_slot gives_reference (record empty {
@@ -145,7 +147,7 @@ two_functions_are_shown : events_loaded (naming 1) [] taken_and_called 20 ≡ Li
 unfolding out-Instr denote.Hole.Carrier.out wrapped
 two_functions_are_shown = refl
 
--- the third event gives function 0
+-- The third event returns function 0.
 abbrev gives_first : List Event → Bool
 gives_first (d ∷ (e ∷ (Returned (Function zero ∷ []) ∷ es))) = true
 gives_first es = false
@@ -155,11 +157,11 @@ a_secondary_that_names_its_own_is_refused = refused referring (naming 1) 0 taken
 
 -- ---- a function that never ends ----
 
--- f gives 7, and moves
+-- The function f returns 7, and moves.
 abbrev pub giving : Module
 giving = record empty { types = gives_number ∷ []; funcs = func 0 (i.I32Const (pos 7) ∷ []) ∷ []; exports = export f (ex.Func 0) ∷ [] }
 
--- the secondary module's function calls itself
+-- The function of the secondary module calls itself.
 abbrev pub endless : LoaderWorld
 endless = in_place_of giving
     (record giving {
@@ -179,17 +181,18 @@ it_gives_nothing : events_loaded endless [] (Call f [] ∷ []) 48 ≡ Linked ∷
 unfolding out-Instr denote.Hole.Carrier.out wrapped
 it_gives_nothing = refl
 
--- What is seen of it begins what is seen of the module, in whatever number of steps; but it has to show what the module shows as well.
+-- The events of this world are a prefix of those of the module, but the events of the module are no
+-- prefix of those of the world.
 pub an_endless_function_is_refused : ObservationallyEquivalent giving endless 0 → ⊥
 an_endless_function_is_refused = refused_later giving endless 0 (Call f [] ∷ []) 5 48 _ _ (omega arith) it_gives_seven it_gives_nothing (λ p. let k = p.1 in cc)
 
 -- ---- slots in a table of the module ----
 
--- f gives 7, and moves; g is a table with one entry, which is null
+-- The function f returns 7, and moves; g is a table with one entry, which is null.
 abbrev pub holding : Module
 holding = record giving { tables = table 1 ∷ []; exports = export f (ex.Func 0) ∷ export g (ex.Table 0) ∷ [] }
 
--- the slot is the first entry of that table, which has so many
+-- The slot is the first entry of the table g, which has this number of entries.
 abbrev pub in_own_table : ℕ → LoaderWorld
 in_own_table count = record (in_place_of holding
     (record holding {
@@ -220,7 +223,7 @@ two_entries_are_counted : events_loaded (in_own_table 2) [] (Size (Named g) ∷ 
 unfolding out-Instr denote.Hole.Carrier.out wrapped
 two_entries_are_counted = refl
 
--- the second event gives this number of entries
+-- The second event gives this number of entries.
 abbrev counts_second : ℕ → List Event → Bool
 counts_second n (e ∷ (Got (Number k) ∷ es)) = nat_eq n k
 counts_second n es = false

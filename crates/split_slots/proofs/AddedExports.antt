@@ -1,4 +1,4 @@
--- Exports that are added one after the other.
+-- The loop that adds exports, one marked place at a time.
 use Rattle.base_lists.proofs.Common.{◌≡◌, ℕ, zero, suc, ◌+◌, ◌<◌, arith, Bool, true, false, cond, List, [], ◌∷◌, ◌++◌, append_assoc, map, take, length, Some, refl, sym, ap, ◌∙◌, slice_get, get_or, map-append}
 use Rattle.base_lists.specs.Places.{places}
 use Rattle.wasm_tree_spec.specs.Prelude.{Space, Export}
@@ -28,7 +28,7 @@ taken_many [] k b e = cc
 taken_many (y ∷ ys) zero b e = refl
 taken_many (y ∷ ys) (suc k) b e = ap suc (taken_many ys k b e)
 
--- one place more
+-- A step over one place: its index is added where the place is marked.
 pub places_more : (marks : List Bool) (k : ℕ) (b : Bool) → slice_get marks k ≡ Some b → places (λ named. named) (take (k + 1) marks) 0 ≡ places (λ named. named) (take k marks) 0 ++ cond b (k ∷ []) []
 places_more marks k b e =
     let many = taken_many marks k b e in
@@ -39,7 +39,7 @@ chosen : (prefix : List ℕ) (space : Space) (k : ℕ) (b : Bool) → exports_fo
 chosen prefix space k true = refl
 chosen prefix space k false = refl
 
--- one export more
+-- A step over one place: its export is added where the place is marked.
 pub one_more : (prefix : List ℕ) (space : Space) (marks : List Bool) (k : ℕ) (b : Bool) → slice_get marks k ≡ Some b → (old now new : List Export) →
     new ≡ now ++ cond b (exported prefix space k ∷ []) [] → now ≡ old ++ exports_for_secondary prefix space (desc_of space) (places (λ named. named) (take k marks) 0) →
     new ≡ old ++ exports_for_secondary prefix space (desc_of space) (places (λ named. named) (take (k + 1) marks) 0)

@@ -1,4 +1,5 @@
--- What is made of calls and functions is what the definitions of a split say, where the table of slots is that of the functions that move.
+-- The replaced calls and the divided functions are those of the definitions of a split, where the
+-- list of slots is that of the moved functions.
 use Rattle.base_lists.proofs.Common.{◌≡◌, ℕ, suc, ◌+◌, ◌-◌, ◌<◌, arith, Bool, true, false, ◌&&◌, cond, List, [], ◌∷◌, ◌++◌, map, length, nat_eq, Option, Some, None, refl, sym, ap, ap₂, ◌∙◌, slice_get, slice_index, nat_le, nat_lt, pos, option_and_then, option_map_or, and-false, fun_ext, le-leb}
 use Rattle.base_lists.proofs.Common.{le-ltb, lt-ltb, slice_index_is}
 use Rattle.base_lists.specs.Every.{Every}
@@ -13,7 +14,7 @@ use Rattle.split_slots.specs.Replacing.{code_of_call, target_code, target_of}
 use Rattle.split_slots.specs.PartedTrees.{parted_func, parted_funcs}
 use Rattle.split_slots.proofs.SlotTables.{table_tells}
 
--- calls of a module that is split: no function with a slot is the module's own
+-- The calls in the primary module: all functions with slots are called through these.
 pub record PrimaryCalls (m : Module) (moved : List ℕ) (c : Calls) : Type 0 where
   pub types : c.types.now ≡ funcs_of m
   pub slots : c.slots.now ≡ map (place_among moved) (numbers 0 (length (funcs_of m)))
@@ -37,7 +38,7 @@ module _ (m : Module) (moved : List ℕ) (there : Every (λ f. f < length (funcs
   pub body_is : (body : List Instr) → with_calls (code_of_call c) body ≡ with_calls (call_through_slot m moved) body
   body_is body = ap (λ code. with_calls code body) (fun_ext code_is)
 
-  -- each has the type that the index space says
+  -- Each function on the list has the type that the index space of functions gives for its index.
   abbrev Typed : (first : ℕ) → List Func → Type 0
   Typed first fs = (i : ℕ) (f : Func) → slice_get fs i ≡ Some f → slice_get (funcs_of m) (first + i) ≡ Some f.ty
 

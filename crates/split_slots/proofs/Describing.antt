@@ -1,4 +1,4 @@
--- What a module has in an index space is what its imports add to it, and then what it defines.
+-- An index space of a module has the entities that are imported, and then those that are defined.
 use Rattle.base_lists.proofs.Common.{◌≡◌, ℕ, ◌+◌, ◌<◌, List, [], ◌∷◌, ◌++◌, map, take, length, get_or, None, refl, sym, ap, ap₂, ◌∙◌, cons_option, map-append, take_more, filter_map-append}
 use Rattle.wasm_tree_spec.specs.Prelude.{Space, Types, Functions, Tables, Memories, Globals, ElementSegments, DataSegments, Func, GlobalDef, Import, ImportDesc, Module, func_of, global_of, imported_funcs, imported_globals, imported_memories, imported_tables, memory_of, table_of}
 use Rattle.wasm_tree.specs.declared.module.ImportDesc.TheVariants as im

@@ -1,4 +1,4 @@
--- Both modules of a split with their own indices.
+-- The modules of a split after they are renumbered to their own indices.
 use Rattle.base_lists.proofs.Common.{◌≡◌, ℕ, ◌+◌, ◌<◌, ◌≤◌, ◌^◌, arith, List, length, None, sym, ap, ap₂, ◌∙◌, subst, IsTrue}
 use Rattle.wasm_tree_spec.specs.Prelude.{IsBounded, Module, funcs_of}
 use Rattle.wasm_valid.specs.Prelude.{IsValid}

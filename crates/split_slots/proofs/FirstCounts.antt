@@ -1,4 +1,5 @@
--- What the first counts of the primary module tell before it is built: no more defined functions are left out than move.
+-- The counts of the primary module that are tested before it is built: no more defined functions
+-- are left out than move.
 use Rattle.base_lists.proofs.Common.{◌≡◌, ℕ, zero, suc, ◌+◌, ◌<◌, ◌≤◌, arith, Bool, true, false, ◌||◌, not, cond, List, [], ◌∷◌, drop, map, length, nat_eq, nat_lt, Option, Some, None, refl, sym, ap, ap₂, ◌∙◌, eqb-true, ltb-true, ltb-false, lt-ltb, length-append, length-drop, length-map}
 use Rattle.base_lists.proofs.Common.{filter_map_most, length-numbers}
 use Rattle.base_lists.specs.Members.{is_among}
@@ -47,7 +48,7 @@ none_counted : (xs : List ℕ) → count_of (λ i. false) xs ≡ 0
 none_counted [] = refl
 none_counted (x ∷ xs) = none_counted xs
 
--- each function on a list stands there at one place or more
+-- A list has at least as many places as there are functions in a range that are on it.
 among_few : (moved : List ℕ) (a n : ℕ) → count_of (λ i. is_among moved i) (numbers a n) ≤ length moved
 among_few [] a n = let none = none_counted (numbers a n) in omega (arith, none)
 among_few (x ∷ xs) a n =
@@ -122,7 +123,7 @@ module _ (namespace : ℕ → List ℕ) (prefix : List ℕ) (m : Module) (moved 
       let d : length u.funcs ≡ length (kept (drop k left) (primary_funcs m moved k m.funcs)) = length-map (kept (drop k left) (primary_funcs m moved k m.funcs)) (new_func (primary_map m moved)) in
       omega (arith, parted, least, a, b, c, d)
 
--- the first count of three that is told
+-- The first of the counts of types, imports and functions that is above its limit.
 told : (types imports funcs left moved : ℕ) (w : Which) (rest : Option Which) → funcs ≤ left + moved →
     or_above types which.Types (or_above imports which.Imports (cond (nat_lt (limit which.Functions + moved) funcs) (Some which.Functions) None)) ≡ Some w →
     or_above types which.Types (or_above imports which.Imports (or_above left which.Functions rest)) ≡ Some w
@@ -145,7 +146,7 @@ same_funcs : (t : Module) (fs : List ℕ) → (with_declared t fs).funcs ≡ t.f
 same_funcs t [] = refl
 same_funcs t (f ∷ fs) = refl
 
--- what the first counts tell is what all counts of the primary module tell
+-- A fault that the first counts report is the fault that all counts of the primary module report.
 pub first_tells : (namespace : ℕ → List ℕ) (prefix : List ℕ) (m : Module) (moved : List ℕ) → length (primary_with namespace prefix m moved).imports ≡ length m.imports + length moved → (w : Which) → first_counts m (length moved) ≡ Some w →
     over_limit (primary_with namespace prefix m moved) ≡ Some w
 unfolding over_limit primary_with
@@ -170,7 +171,8 @@ within types imports funcs moved = one (nat_lt (limit which.Types) types) (nat_l
     one false false true is at e = cc
     one false false false is at e = (ltb-false (limit which.Imports) imports is, ltb-false (limit which.Functions + moved) funcs at)
 
--- where they tell nothing, there are few functions
+-- Where the first counts report no fault, a u32 counts the functions of the module and the moved
+-- ones.
 pub few_where_none : (m : Module) (moved : List ℕ) → first_counts m (length moved) ≡ None → FewFuncs m moved
 few_where_none m moved e =
     let w = within (length m.types) (length m.imports + length moved) (length m.funcs) (length moved) e in

@@ -1,4 +1,5 @@
--- The faults of a split that are told before anything is built, and those that are told of what is built.
+-- The faults of a split that are reported before anything is built, and those that are reported of
+-- the built modules.
 use Rattle.base_lists.proofs.Common.{◌≡◌, ℕ, ◌+◌, Bool, true, false, List, cond, length, nat_lt, Some, None, refl, ap, ◌∙◌, option_map, option_or}
 use Rattle.wasm_tree_spec.specs.Prelude.{Which, Module, limit}
 use Rattle.wasm_tree.specs.declared.which.Which.TheVariants as which
@@ -23,7 +24,7 @@ module _ (names : SplitNames) (m : Module) (moved : List ℕ) where
       ap (λ o. option_or (option_map NamespaceTaken o) (option_or (option_map PrefixTaken (prefix_taken names.export_prefix m moved)) (option_map TooMany (too_many names m moved)))) none
       ∙ ap (λ o. option_or (option_map PrefixTaken o) (option_map TooMany (too_many names m moved))) clear
 
-  -- the primary module imports a placeholder for each function that moves
+  -- The primary module imports a placeholder for each moved function.
   abbrev ImportsMany : Type 0
   ImportsMany = length (primary names m moved).imports ≡ length m.imports + length moved
 
@@ -46,7 +47,7 @@ module _ (names : SplitNames) (m : Module) (moved : List ℕ) where
       by true is e = cc
       by false is e = record { namespace = none; prefix = clear; params = is; few = few_where_none m moved e }
 
-  -- what is left to be told is of what is built
+  -- The faults that remain are counts of the built modules above their limits.
   pub built_last : MaySplit names m moved → split_fault names m moved ≡ option_map TooMany (option_or (over_limit (primary names m moved)) (over_limit (secondary names m moved)))
   built_last may =
       many_left may.namespace may.prefix ∙ ap (λ b. option_map TooMany (cond b (Some which.Trampolines) (option_or (over_limit (primary names m moved)) (over_limit (secondary names m moved))))) may.params

@@ -1,4 +1,4 @@
--- Imports that are added one after the other.
+-- The loop that adds imports, one marked place at a time.
 use Rattle.base_lists.proofs.Common.{◌≡◌, ℕ, ◌+◌, Bool, true, false, cond, List, [], ◌∷◌, ◌++◌, append_assoc, take, Option, Some, refl, sym, ap, ◌∙◌, slice_get, cons_option, filter_map, filter_map-append}
 use Rattle.base_lists.specs.Places.{places}
 use Rattle.split_slots.proofs.AddedExports.{places_more}
@@ -7,7 +7,7 @@ chosen : {A : Type 0} (f : ℕ → Option A) (k : ℕ) (b : Bool) → filter_map
 chosen f k true = refl
 chosen f k false = refl
 
--- one place more
+-- A step over one place: the value for it, if any, is added where the place is marked.
 pub one_chosen : {A : Type 0} (f : ℕ → Option A) (marks : List Bool) (k : ℕ) (b : Bool) → slice_get marks k ≡ Some b → (old now new : List A) →
     new ≡ now ++ cond b (cons_option (f k) []) [] → now ≡ old ++ filter_map f (places (λ named. named) (take k marks) 0) →
     new ≡ old ++ filter_map f (places (λ named. named) (take (k + 1) marks) 0)

@@ -1,4 +1,4 @@
--- The types of imported functions, one import after the other.
+-- The loop that collects the types of imported functions, one import at a time.
 use Rattle.base_lists.proofs.Common.{◌≡◌, ℕ, ◌+◌, ◌<◌, List, [], ◌∷◌, ◌++◌, take, length, get_or, sym, ap, ◌∙◌, cons_option, take_more, filter_map-append}
 use Rattle.wasm_tree_spec.specs.Prelude.{Import, func_of, imported_funcs}
 

@@ -1,4 +1,5 @@
--- What is known of a module is what the definitions of a split say.
+-- The survey of a module, with the functions that are left in the primary module, is that of the
+-- definitions of a split.
 use Rattle.base_lists.proofs.Common.{◌≡◌, ℕ, zero, suc, ◌+◌, ◌<◌, arith, Bool, false, ◌||◌, not, List, [], ◌∷◌, ◌++◌, map, length, is_some, unwrap_or, Option, refl, ap, ap₂, ◌∙◌, slice_get, cons_option, length-numbers, length-map}
 use Rattle.base_lists.specs.Every.{Every}
 use Rattle.base_lists.specs.Places.{numbers}

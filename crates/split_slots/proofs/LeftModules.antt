@@ -1,4 +1,4 @@
--- What is left of a module that is split, and the functions that moved, are what the definitions of a split say.
+-- The tree of the primary module, and the moved functions, are those of the definitions of a split.
 use Rattle.base_lists.proofs.Common.{◌≡◌, ℕ, suc, ◌+◌, ◌<◌, ◌≤◌, ◌^◌, arith, Bool, List, [], ◌∷◌, ◌++◌, drop, map, length, is_some, Option, Some, None, refl, sym, ap, ap₂, ◌∙◌, slice_get, option_map_or, IsStrictlyIncreasing, length-append, length-map, every_at, length-numbers, append_right, map_at}
 use Rattle.base_lists.proofs.Common.{place_is}
 use Rattle.base_kept.specs.Kept.{kept}
@@ -25,7 +25,7 @@ few_of : (types : List FuncType) (f : Func) (o : Option FuncType) → param_coun
 few_of types f None lt = omega arith
 few_of types f (Some ty) lt = omega (arith, lt)
 
--- a u32 counts the parameters of each function
+-- A u32 counts the parameters of each function.
 pub few_params : (m : Module) → IsBounded m → EachFewParams m.types m.funcs
 few_params m bounded i f at = few_of m.types f (slice_get m.types f.ty) (bounded.locals i f at)
 
@@ -55,7 +55,7 @@ module _ (m : Module) (moved : List ℕ) (can : CanMove m moved) (c : Calls) (sl
   pub moved_are : IsStrictlyIncreasing moved → own_funcs c (length (imported_funcs m.imports)) m.funcs ≡ defined_at m moved
   moved_are inc = own_are c (length (imported_funcs m.imports)) m.funcs moved (ascend_from (length (imported_funcs m.imports)) moved (all_defined m moved can) inc) tells
 
--- what is left of the functions
+-- The functions that are left in the primary module are those of its definition.
 pub left_funcs_are : (m : Module) (moved : List ℕ) → CanMove m moved → (c : Calls) → PrimaryCalls m moved c → (left : List Bool) → left ≡ left_marks m moved →
     kept (drop (length (imported_funcs m.imports)) left) (parted_funcs m.types c (length (imported_funcs m.imports)) m.funcs)
     ≡ kept (drop (length (imported_funcs m.imports)) (left_marks m moved)) (primary_funcs m moved (length (imported_funcs m.imports)) m.funcs)
@@ -64,7 +64,7 @@ left_funcs_are m moved can c is left left_is =
     (funcs_are m moved (all_there m moved can) c is (length (imported_funcs m.imports)) m.funcs
     (λ i f at. append_right (imported_funcs m.imports) (map (λ g. g.ty) m.funcs) i ∙ map_at (λ g. g.ty) m.funcs i f at))
 
--- the module with what is left and what is added
+-- The module with the functions that are left and the added parts is the primary module.
 pub tree_is : (namespace prefix : List ℕ) (m : Module) (moved : List ℕ) (types : List ℕ) (table base : ℕ) (funcs : List Func) (added : List Export) →
     types ≡ funcs_of m → table ≡ slot_table m → base ≡ length (funcs_of m) → added ≡ added_exports prefix m moved →
     funcs ≡ kept (drop (length (imported_funcs m.imports)) (left_marks m moved)) (primary_funcs m moved (length (imported_funcs m.imports)) m.funcs) →
@@ -89,6 +89,5 @@ pub parted_length : (types : List FuncType) (c : Calls) (first : ℕ) (fs : List
 parted_length types c first [] = refl
 parted_length types c first (f ∷ fs) = ap suc (parted_length types c (suc first) fs)
 
--- each function has a mark
 pub left_many : (m : Module) (moved : List ℕ) → length (left_marks m moved) ≡ length (funcs_of m)
 left_many m moved = length-map (numbers 0 (length (funcs_of m))) (is_left m moved) ∙ length-numbers 0 (length (funcs_of m))

@@ -1,4 +1,4 @@
--- Maps of indices are the same where their lists are.
+-- Remaps are equal where their lists are equal.
 use Rattle.std.proofs.Common.{◌≡◌, ℕ, List, ap, ◌∙◌}
 use Rattle.index_remap.specs.declared.remap.Remap.{Remap}
 

@@ -1,4 +1,5 @@
--- In a valid module what `ref.func` names in a body is named outside the bodies too, so that marks of that tell of which functions a trampoline is needed.
+-- The functions that `ref.func` names in the bodies of a valid module are also named outside the
+-- bodies, so marks of the latter show which functions need a trampoline.
 use Rattle.base_lists.proofs.Common.{◌≡◌, ℕ, ◌<◌, Bool, true, false, ◌||◌, List, [], ◌∷◌, ◌++◌, length, cond, unwrap_or, Option, Some, None, refl, sym, ap, ap₂, ◌∙◌, subst, slice_get, zero-add, append-nil, cons_option, nat_le, nat_lt, ltb-true, slice_get_within, right_true, among_append}
 use Rattle.base_lists.specs.Members.{is_among}
 use Rattle.base_lists.proofs.Members.{joined_among}
@@ -17,12 +18,13 @@ use Rattle.split_plan.specs.Plans.{body_uses_segment}
 use Rattle.split_spec.specs.Prelude.{is_needed}
 use Rattle.split_spec.specs.Needed.{needed}
 
--- the marks of what is named outside the bodies, with the start
+-- The marks of the functions that are named outside the bodies, including the start function.
 pub with_start : (m : Module) (start : Option ℕ) → marked_at (named_of m) start ≡ named_from (refs_of m ++ cons_option start []) 0 (length (funcs_of m))
 with_start m None = ap (λ rs. named_from rs 0 (length (funcs_of m))) (sym (append-nil (refs_of m)))
 with_start m (Some func) = all_marks (refs_of m) (func ∷ []) (length (funcs_of m))
 
--- `ref.func` in a well-typed body names only functions that the context lets it name
+-- The operand of `ref.func` in a well-typed body is a function that the context declares as a
+-- reference.
 abbrev pub RefsAreDeclared : Type 0
 RefsAreDeclared = (c : Context) (is : List Instr) (ps rs : List ValType) → WellTyped c is ps rs → (x : ℕ) → is_among (refs_all is) x ≡ true → slice_get c.named x ≡ Some true
 
@@ -51,7 +53,7 @@ module _ (refs_declared : RefsAreDeclared) (m : Module) (holds : (i : ℕ) → i
       ∙ known_twice (is_among (refs_of m) x) (is_among (cons_option m.start []) x) (is_among (body_refs m.funcs) x) (body_named x)
       ∙ sym (among_append (refs_of m) (cons_option m.start []) x)
 
-  -- the mark of a function
+  -- The mark of a function shows whether it needs a trampoline.
   pub marks_tell : (x : ℕ) → x < length (funcs_of m) → slice_get (named_from (refs_of m ++ cons_option m.start []) 0 (length (funcs_of m))) x ≡ Some (is_needed m x)
   marks_tell x lt = named_get (refs_of m ++ cons_option m.start []) 0 (length (funcs_of m)) x lt ∙ ap (λ y. Some (is_among (refs_of m ++ cons_option m.start []) y)) (zero-add x) ∙ ap Some (sym (needed_is x))
 
@@ -66,7 +68,7 @@ module _ (refs_declared : RefsAreDeclared) (m : Module) (holds : (i : ℕ) → i
   pub all_needed : (marks : List Bool) → marks ≡ named_from (refs_of m ++ cons_option m.start []) 0 (length (funcs_of m)) → (funcs : List ℕ) → Every (λ f. f < length (funcs_of m)) funcs → filter (λ f. unwrap_or (slice_get marks f) false) funcs ≡ needed m funcs
   all_needed marks is funcs lt = filter_same (λ f. unwrap_or (slice_get marks f) false) (is_needed m) funcs (each_mark marks is funcs lt)
 
--- the functions of a plan are there
+-- The functions of a plan are within the index space of functions.
 pub all_there : (m : Module) (funcs : List ℕ) → Every (λ f. (is_defined m f ≡ true) × (body_uses_segment m f ≡ false)) funcs → Every (λ f. f < length (funcs_of m)) funcs
 all_there m [] h = tt
 all_there m (f ∷ fs) h = (ltb-true f (length (funcs_of m)) (right_true (nat_le (length (imported_funcs m.imports)) f) (nat_lt f (length (funcs_of m))) h.0.0), all_there m fs h.1)

@@ -1,4 +1,4 @@
--- Marks that are set one after the other.
+-- The loops that mark the operands of code, one operand at a time.
 use Rattle.base_lists.proofs.Common.{◌≡◌, ℕ, zero, suc, ◌+◌, ◌-◌, ◌≤◌, arith, map, take, replicate, Bool, true, false, ◌&&◌, ◌||◌, not, List, [], ◌∷◌, ◌++◌, length, Option, Some, None, is_some, option_map, refl, sym, ap, ap₂, ◌∙◌, nat_eq, slice_get, cons_option, list_any, filter_map-append}
 use Rattle.base_lists.proofs.Common.{or_assoc, or-false, and-false, list_any-append, same_number}
 use Rattle.base_lists.specs.Places.{numbers}

@@ -1,4 +1,5 @@
--- The functions that are taken out are the definitions of those that move, in the order of their slots.
+-- The functions that are taken out of a module are the definitions of the moved functions, in the
+-- order of their slots.
 use Rattle.base_lists.proofs.Common.{◌≡◌, ◌≢◌, ℕ, zero, suc, ◌+◌, ◌-◌, ◌<◌, ◌≤◌, arith, Bool, true, false, ◌||◌, cond, List, [], ◌∷◌, nat_eq, nat_lt, is_some, refl, sym, ap, ap₂, ◌∙◌, subst, slice_get, slice_index, cons_option, filter_map, IsStrictlyIncreasing, eq-eqb, eqb-false, ltb-false}
 use Rattle.base_lists.proofs.Common.{ltb-true, same_number}
 use Rattle.base_lists.specs.Members.{is_among}
@@ -8,7 +9,7 @@ use Rattle.split_slots.specs.Looking.{slot_at}
 use Rattle.split_slots.specs.PartedTrees.{own_funcs}
 use Rattle.split_slots.proofs.SlotTables.{no_number}
 
--- the numbers ascend, from this one on
+-- The numbers of the list are strictly increasing, and the first is at least this number.
 abbrev pub Ascends : ℕ → List ℕ → Type 0
 Ascends a [] = Unit {0}
 Ascends a (x ∷ xs) = (a ≤ x) × Ascends (suc x) xs
@@ -37,7 +38,7 @@ none_there a (x ∷ xs) = none (x - a) (none_there a xs)
     none zero later = later
     none (suc k) later = later
 
--- past the first function
+-- The first function can be dropped where all indices on the list are above its index.
 one_less : (a : ℕ) (f : Func) (fs : List Func) (ms : List ℕ) → Ascends (suc a) ms → filter_map (λ func. slice_get (f ∷ fs) (func - a)) ms ≡ filter_map (λ func. slice_get fs (func - suc a)) ms
 one_less a f fs [] up = refl
 one_less a f fs (x ∷ xs) up =

@@ -1,4 +1,4 @@
--- The secondary module is what the definitions of a split say.
+-- The tree of the secondary module is that of the definitions of a split.
 use Rattle.base_lists.proofs.Common.{◌≡◌, ℕ, ◌<◌, ◌^◌, ◌+◌, ◌-◌, true, false, slice_get, arith, List, [], ◌∷◌, map, length, None, ap, ap₂, ◌∙◌, fun_ext, nat_le, nat_lt, leb-true, ltb-true, left_true, right_true, length-append, length-map, slice_get_there, every_at, all_counted}
 use Rattle.base_lists.specs.Every.{Every}
 use Rattle.base_lists.specs.Places.{numbers}
@@ -33,14 +33,14 @@ secondary_tree_is names m moved types imports funcs table base count ts is fs ta
     with_all : List FuncType → List Import → List Func → ElemSeg → Module
     with_all t i f e = record { types = t; imports = i; funcs = f; tables = []; mems = []; globals = []; exports = []; start = None; elems = e ∷ []; datas = [] }
 
--- how many of each kind are marked, at most
+-- The numbers of marks of each index space are within u32.
 pub record FewMarks (m : Module) (moved : List ℕ) (marks : Marks) : Type 0 where
   pub funcs : length marks.funcs.items + length moved < 2 ^ 32
   pub tables : length marks.tables.items < 2 ^ 32
   pub mems : length marks.mems.items < 2 ^ 32
   pub globals : length marks.globals.items < 2 ^ 32
 
--- a u32 counts the marks of each kind
+-- The marks of a module whose counts are bounded are within u32.
 pub few_marks : (m : Module) (moved : List ℕ) (marks : Marks) → IsBounded m → FewFuncs m moved → AreMarks m moved marks → FewMarks m moved marks
 few_marks m moved marks bounded few are =
     let funcs = ap length (are Functions) ∙ many_marks m moved moved Functions ∙ length-map (funcs_of m) im.Func in
@@ -52,7 +52,7 @@ few_marks m moved marks bounded few are =
     let b3 = bounded.globals in
     record { funcs = omega (arith, few, funcs); tables = omega (arith, tables, b1); mems = omega (arith, mems, b2); globals = omega (arith, globals, b3) }
 
--- each function that moves has a definition
+-- Each moved function has a definition.
 pub own_many : (m : Module) (moved : List ℕ) → CanMove m moved → length (defined_at m moved) ≡ length moved
 own_many m moved can =
     all_counted (λ func. slice_get m.funcs (func - length (imported_funcs m.imports))) moved (λ p f at.

@@ -1,4 +1,4 @@
--- Functions that are parted one after the other.
+-- The loop that divides the defined functions, one function at a time.
 use Rattle.base_lists.proofs.Common.{◌≡◌, ℕ, zero, suc, ◌+◌, ◌≤◌, arith, Bool, true, false, cond, List, [], ◌∷◌, ◌++◌, take, drop, set, Some, is_some, refl, ap, ◌∙◌, slice_get}
 use Rattle.wasm_tree_spec.specs.Prelude.{FuncType, Func}
 use Rattle.split_slots.specs.declared.calls.Calls.{Calls}
@@ -6,7 +6,7 @@ use Rattle.split_slots.specs.Looking.{slot_at}
 use Rattle.split_slots.specs.PartedTrees.{own_funcs, parted_func, parted_funcs}
 
 module _ (types : List FuncType) (c : Calls) where
-  -- parted before a place, and as they were from it on
+  -- The functions of which those before a place are divided, and the others are unchanged.
   abbrev pub parted_to : (first : ℕ) → List Func → ℕ → List Func
   parted_to first fs i = parted_funcs types c first (take i fs) ++ drop i fs
 

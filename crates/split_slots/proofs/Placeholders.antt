@@ -1,4 +1,5 @@
--- Placeholders that are added one after the other, and the definition that they are an instance of.
+-- The loop that adds the imports of placeholders, one at a time, and the definition of these
+-- imports.
 use Rattle.base_lists.proofs.Common.{◌≡◌, ℕ, zero, suc, ◌+◌, ◌<◌, arith, List, [], ◌∷◌, ◌++◌, append_assoc, take, length, Some, refl, sym, ap, ◌∙◌, slice_get, slice_index, slice_get_there, slice_index_is}
 use Rattle.wasm_tree_spec.specs.Prelude.{Import, Module, funcs_of}
 use Rattle.split_spec.specs.Prelude.{placeholder_imports}
@@ -25,7 +26,7 @@ module _ (namespace types : List ℕ) where
       ∙ append_assoc old (placeholders_of namespace types 0 (take k fs)) (placeholder_of namespace types k f ∷ [])
       ∙ ap (λ xs. old ++ xs) (sym (pushed 0 fs k k f zero_k at) ∙ ap (λ n. placeholders_of namespace types 0 (take n fs)) one)
 
--- with the types of a module
+-- The placeholders that are added with the types of a module are those of the definition.
 pub placeholders_are : (namespace : List ℕ) (m : Module) (slot : ℕ) (funcs : List ℕ) → placeholders_of namespace (funcs_of m) slot funcs ≡ placeholder_imports (λ s. namespace) m slot funcs
 placeholders_are namespace m slot [] = refl
 placeholders_are namespace m slot (f ∷ fs) = ap (λ xs. placeholder_of namespace (funcs_of m) slot f ∷ xs) (placeholders_are namespace m (suc slot) fs)

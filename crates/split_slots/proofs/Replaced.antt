@@ -1,4 +1,4 @@
--- Code in which other code stands in place of calls, made instruction by instruction.
+-- The loop that replaces the calls in code, one instruction at a time.
 use Rattle.base_lists.proofs.Common.{◌≡◌, ℕ, zero, suc, ◌+◌, ◌-◌, ◌<◌, ◌≤◌, arith, length, Bool, true, false, ◌&&◌, cond, List, [], ◌∷◌, ◌++◌, map, take, drop, Option, Some, None, ◌⊎◌, inl, inr, refl, sym, ap, ap₂, ◌∙◌, slice_get, slice_index, append_assoc, add-one, nat_le, nat_lt, flat_map, part}
 use Rattle.base_lists.proofs.Common.{part_at, cases_lt}
 use Rattle.wasm_tree_spec.specs.Prelude.{BlockType, Instr, fold_out-Instr, map-Instr, Block, Block', Loop, Loop', If, If', Call, outs-Block, outs-Loop, outs-If}
@@ -15,7 +15,7 @@ use Rattle.split_slots.specs.Replacing.{FewSlots, code_here, code_of_call, is_sl
 
 -- ---- calls ----
 
--- a function of the module's own has no slot by its own index
+-- An index of a function in its own secondary module has no slot.
 no_slot : (c : Calls) → FewSlots c → (k : ℕ) → slot_at c.slots.now (c.base + k) ≡ None
 no_slot c few k = of (slot_at c.slots.now (c.base + k)) refl
   where
@@ -23,7 +23,8 @@ no_slot c few k = of (slot_at c.slots.now (c.base + k)) refl
     of None e = refl
     of (Some slot) e = absurd (omega (arith, (few (c.base + k) slot e).3))
 
--- what stands in place of a call stands in place of it once it names the function of the module's own, too
+-- The code that replaces a call is the same after the call is settled, that is, after its operand
+-- is the function of the secondary module itself.
 settled_code : (c : Calls) → FewSlots c → (f : ℕ) (o : Option ℕ) → slot_at c.slots.now f ≡ o → code_of_call c (settled_by f (target_of c f o)) ≡ target_code c.table (target_of c f o)
 settled_code c few f None at = ap (λ o. target_code c.table (target_of c f o)) at
 settled_code c few f (Some slot) at = of (nat_le c.first slot && nat_lt slot c.end) refl
@@ -35,7 +36,7 @@ settled_code c few f (Some slot) at = of (nat_le c.first slot && nat_lt slot c.e
     of true e = ap (λ o. target_code c.table (target_of c (c.base + (slot - c.first)) o)) (no_slot c few (slot - c.first))
     of false e = ap (λ o. target_code c.table (target_of c f o)) at ∙ ap (λ b. target_code c.table (target_if b)) e
 
--- one that is not through a slot stays one
+-- A call that does not go through a slot remains one instruction.
 one_call : (table f : ℕ) (t : Target) → is_slot t ≡ false → target_code table t ≡ Call (settled_by f t) ∷ []
 one_call table f (target.Func own) e = refl
 one_call table f (target.Slot ty slot) e = cc
@@ -55,7 +56,7 @@ module _ (c : Calls) (few : FewSlots c) where
   abbrev step : Instr-F Instr → List Instr
   step l = calls_step code (map-Instr Instr (List Instr) (calls_in code) l)
 
-  -- a block is one instruction
+  -- A settled block, loop or if is replaced by itself.
   one_block : (i : Instr) (ty : BlockType) (body : List Instr) → out-Instr i ≡ Instr-F.Block ty body → (code_here code (settled c i) ≡ settled c i ∷ []) × (code_here code (settled c i) ≡ calls_in code i)
   one_block i ty body e =
       let held = with_calls code body in
@@ -80,7 +81,7 @@ module _ (c : Calls) (few : FewSlots c) where
         is ∙ sym (fold_out-Instr (List Instr) (calls_step code) i ∙ ap step e ∙ ap₂ (λ is os. If ty is os ∷ []) (joined_map (calls_in code) body) (joined_map (calls_in code) other)),
       )
 
-  -- what stands in place of an instruction stands in place of the settled one
+  -- The code that replaces a settled instruction is the code that replaces the instruction.
   here : (i : Instr) → code_here code (settled c i) ≡ calls_in code i
   unfolding out-Instr denote.Hole.Carrier.out
   here (Block' ty n body) = (one_block (Block' ty n body) ty _ (outs-Block' ty n body)).1
@@ -89,7 +90,7 @@ module _ (c : Calls) (few : FewSlots c) where
   here (Call f) = settled_code c few f (slot_at c.slots.now f) refl ∙ sym (fold_out-Instr (List Instr) (calls_step code) (Call f))
   here i = sym (fold_out-Instr (List Instr) (calls_step code) i)
 
-  -- and is that one, unless that is a call through a slot
+  -- A settled instruction is replaced by itself, unless it is a call through a slot.
   one_stays : (i : Instr) → is_spread c i ≡ false → code_here code (settled c i) ≡ settled c i ∷ []
   unfolding out-Instr denote.Hole.Carrier.out
   one_stays (Block' ty n body) e = (one_block (Block' ty n body) ty _ (outs-Block' ty n body)).0
@@ -104,11 +105,12 @@ module _ (c : Calls) (few : FewSlots c) where
   spread_all [] = refl
   spread_all (i ∷ is) = ap₂ (λ x y. x ++ y) (here i) (spread_all is)
 
-  -- nothing before the place is spread
+  -- No instruction before the place is replaced by several instructions.
   abbrev pub NoneBefore : List Instr → ℕ → Type 0
   NoneBefore is n = (k : ℕ) (i : Instr) → k < n → slice_get is k ≡ Some i → is_spread c i ≡ false
 
-  -- the settled code up to such a place, and from there on what stands in its place
+  -- The replaced code is the settled code up to such a place, followed by the replacements from the
+  -- place on.
   pub spread_behind : (is : List Instr) (n : ℕ) → NoneBefore is n → take n (map (settled c) is) ++ flat_map (code_here code) (drop n (map (settled c) is)) ≡ with_calls code is
   spread_behind is zero none = spread_all is
   spread_behind [] (suc n) none = refl
@@ -126,7 +128,8 @@ part_all f [] (suc n) le = refl
 part_all f (x ∷ xs) zero le = absurd (omega (arith, le))
 part_all f (x ∷ xs) (suc n) le = let less : length xs ≤ n = omega (arith, le) in ap (λ ys. f x ∷ ys) (part_all f xs n less)
 
--- what holds of none before two places holds of none before the next, where an item of which it holds makes the first place no later
+-- A step of the search for the first item that passes a test: no item before the next place passes
+-- it, where each item that passes moves the first place no later.
 pub none_more : {A : Type 0} (f : A → Bool) (xs : List A) (at first next : ℕ) (x : A) → Some x ≡ slice_get xs at → next ≤ first → (f x ≡ true → next ≤ at) →
     ((k : ℕ) (y : A) → k < first → k < at → slice_get xs k ≡ Some y → f y ≡ false) → (k : ℕ) (y : A) → k < next → k < at + 1 → slice_get xs k ≡ Some y → f y ≡ false
 none_more {A = A} f xs at first next x is le reached none k y lt less e = by (cases_lt k at)
@@ -142,7 +145,7 @@ none_more {A = A} f xs at first next x is le reached none k y lt less e = by (ca
 pub part_item : {A : Type 0} (f : A → A) (xs : List A) (n : ℕ) (x : A) (old : List A) → old ≡ part f xs n → Some x ≡ slice_get old n → Some x ≡ slice_get xs n
 part_item f xs n x old is at = at ∙ ap (λ ys. slice_get ys n) is ∙ part_at f xs n
 
--- what is given for one item more goes behind what is given for those before
+-- A step of a loop over a list: the results for one more item follow those for the items before it.
 pub given_more : {A B : Type 0} (f : A → List B) (xs : List A) (n : ℕ) (x : A) (ys : List B) → Some x ≡ slice_get xs n → (ys ++ flat_map f (take n xs)) ++ f x ≡ ys ++ flat_map f (take (n + 1) xs)
 given_more f xs n x ys is = append_assoc ys (flat_map f (take n xs)) (f x) ∙ ap (λ zs. ys ++ zs) (rw add-one (given f xs n x is))
   where

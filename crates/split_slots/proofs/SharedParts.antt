@@ -1,4 +1,5 @@
--- What is made by marks is what the definitions of a split say, where the marks are of what the functions that move name.
+-- The exports, the imports and the remap that are made from marks are those of the definitions of a
+-- split, where the marks are of the entities that the moved functions name.
 use Rattle.base_lists.proofs.Common.{◌≡◌, ℕ, ◌<◌, Bool, ◌&&◌, not, List, [], ◌∷◌, ◌++◌, map, length, nat_eq, Option, is_some, ap, ◌∙◌, list_any, fun_ext}
 use Rattle.base_lists.specs.Members.{is_among}
 use Rattle.base_lists.specs.Every.{Every}
@@ -20,11 +21,11 @@ use Rattle.split_slots.specs.ImportList.{imports_by}
 use Rattle.split_slots.specs.Maps.{secondary_funcs_by, secondary_map_by, secondary_tables_by}
 use Rattle.split_slots.proofs.SlotTables.{has_place, table_tells}
 
--- the table of slots of the functions that move
+-- The list that has the slot of each function, if it moves.
 abbrev pub slots_for : Module → (moved : List ℕ) → List (Option ℕ)
 slots_for m moved = map (place_among moved) (numbers 0 (length (funcs_of m)))
 
--- the marks are of what the functions that move name
+-- The marks are of the entities that the moved functions name.
 abbrev pub AreMarks : Module → (moved : List ℕ) → Marks → Type 0
 AreMarks m moved marks = (space : Space) → marks_in marks space ≡ marks_from_primary m moved moved space
 

@@ -1,4 +1,4 @@
--- Tables of slots, made one slot at a time.
+-- The loop that makes the list of the slots of functions, one slot at a time.
 use Rattle.base_lists.proofs.Common.{◌≡◌, ◌≢◌, ℕ, zero, suc, ◌+◌, ◌-◌, ◌<◌, ◌≤◌, Bool, true, false, cond, List, [], ◌∷◌, ◌++◌, map, take, length, nat_eq, Option, Some, None, refl, sym, ap, ap₂, ◌∙◌, arith, slice_get, slice_set, slice_index, replicate, subst, is_some, unwrap_or, ◌||◌}
 use Rattle.base_lists.proofs.Common.{IsStrictlyIncreasing, eq-eqb, every_at, map_at, slice_get_none, slice_get_there, slice_index_is, length-numbers, numbers_is, same_number}
 use Rattle.base_lists.specs.Members.{is_among}
@@ -32,12 +32,13 @@ no_number x y other = split (nat_eq x y) refl
     split true e = absurd (other (same_number x y e))
     split false e = e
 
--- of another number than the last
+-- The place of a number that differs from the last of a list is its place in the list without the
+-- last.
 other_place : (j y : ℕ) → j ≢ y → (xs : List ℕ) (n : ℕ) → first_place (nat_eq j) (xs ++ y ∷ []) n ≡ first_place (nat_eq j) xs n
 other_place j y other [] n = rw (no_number j y other) refl
 other_place j y other (x ∷ xs) n = ap (λ o. cond (nat_eq j x) (Some n) o) (other_place j y other xs (suc n))
 
--- of the last, where it did not come before
+-- The place of the last number of a list, where no number before it is equal to it.
 last_place : (y : ℕ) (xs : List ℕ) (n : ℕ) → ((i x : ℕ) → slice_get xs i ≡ Some x → x ≢ y) → first_place (nat_eq y) (xs ++ y ∷ []) n ≡ Some (n + length xs)
 last_place y [] n new = rw (nat_eq-refl y) (let e : n ≡ n + 0 = omega arith in ap Some e)
   where
@@ -135,7 +136,7 @@ table_tells moved count there f = split (slice_get (numbers 0 count) f) refl
         let many = length-numbers 0 count in
         ap (λ o. unwrap_or o None) (map_none (place_among moved) (numbers 0 count) f e) ∙ sym (no_place moved count there f 0 (omega (arith, le, many)))
 
--- a function has a slot where it is among those that move
+-- A function has a slot exactly where it is among the moved functions.
 pub has_place : (moved : List ℕ) (f n : ℕ) → is_some (first_place (nat_eq f) moved n) ≡ is_among moved f
 has_place [] f n = refl
 has_place (x ∷ xs) f n = split (nat_eq f x) (has_place xs f (suc n))

@@ -1,10 +1,10 @@
--- A trampoline's body, made one instruction at a time.
+-- The loop that makes the body of a trampoline, one instruction at a time.
 use Rattle.base_lists.proofs.Common.{◌≡◌, ℕ, suc, ◌+◌, List, [], ◌∷◌, ◌++◌, append_assoc, map, length, refl, ap, ◌∙◌, zero-add, map-append, numbers_more}
 use Rattle.base_lists.specs.Places.{numbers}
 use Rattle.wasm_tree_spec.specs.Prelude.{ValType, LocalGet}
 use Rattle.index_remap.specs.Prelude.{gets}
 
--- one number more, and what f gives for it
+-- A step over one number: the value of the function for it follows the others.
 pub numbered_more : {A : Type 0} (f : ℕ → A) (n k : ℕ) → map f (numbers n (k + 1)) ≡ map f (numbers n k) ++ f (n + k) ∷ []
 numbered_more f n k = ap (map f) (numbers_more n k) ∙ map-append f (numbers n k) ((n + k) ∷ [])
 

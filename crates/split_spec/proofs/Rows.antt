@@ -1,4 +1,4 @@
--- Small modules that are split, computed.
+-- Splits of small modules, by computation.
 use Rattle.base_lists.proofs.Common.{◌≡◌, refl, ℕ, ◌+◌, List, [], ◌∷◌, ◌++◌, Option, Some, None, true, false, rules, pos}
 use Rattle.std.specs.Fmt.{digits}
 use Rattle.wasm_num.specs.declared.BinOp.TheVariants.{I32Add, I32Shl}
@@ -29,7 +29,7 @@ adding_body = i.LocalGet 0 ∷ i.LocalGet 1 ∷ i.Bin I32Add ∷ []
 abbrev pub adding_as : List ℕ → Module
 adding_as name = record empty { types = takes_two ∷ []; funcs = func 0 adding_body ∷ []; exports = export name (ex.Func 0) ∷ [] }
 
--- exported as "add"
+-- The word "add" is the name of an export.
 abbrev pub adding : Module
 adding = adding_as (97 ∷ 100 ∷ 100 ∷ [])
 
@@ -71,7 +71,7 @@ what_is_called_is_put_into_its_slot = search (rules, the_lemmas)
 
 -- ---- nothing moves ----
 
--- the function, which is exported as "i", copies from a segment, and so it stays
+-- The function is exported as "i". It copies from a segment, and so it stays.
 abbrev pub copying : Module
 copying = record empty {
   types = nothing ∷ [];
@@ -97,7 +97,7 @@ no_slot_is_filled = search (rules, the_lemmas)
 
 -- ---- a module as a linker writes it ----
 
--- "log", "env", "memory", "__wasm_call_ctors" and "run"
+-- The words are "log", "env", "memory", "__wasm_call_ctors" and "run".
 abbrev pub log_import : Import
 log_import = import (101 ∷ 110 ∷ 118 ∷ []) (108 ∷ 111 ∷ 103 ∷ []) (im.Func 2)
 
@@ -117,7 +117,8 @@ twice_body = i.LocalGet 0 ∷ i.I32Const (pos 1) ∷ i.Bin I32Shl ∷ []
 abbrev pub run_body : List Instr
 run_body = i.LocalGet 0 ∷ i.Call 0 ∷ i.LocalGet 0 ∷ i.I32Const (pos 1) ∷ i.CallIndirect 1 0 ∷ []
 
--- The functions are log, which is imported, ctors, init, twice and run. Run calls log, and twice through the table.
+-- The functions are log, which is imported, ctors, init, twice and run. Run calls log, and twice
+-- through the table.
 abbrev pub linked : Module
 linked = record {
   types = nothing ∷ number_to_number ∷ takes_number ∷ [];
@@ -144,7 +145,7 @@ linked_primary = record linked {
 abbrev pub linked_secondary : Module
 linked_secondary = record empty { types = linked.types; imports = slots_import 1 ∷ []; funcs = func 1 twice_body ∷ []; elems = segment 0 0 (const.Func 0 ∷ []) ∷ [] }
 
--- twice moves, and its trampoline stands in the table
+-- The function twice moves, and the table refers to its trampoline.
 twice_is_called_through_a_trampoline : primary names linked (3 ∷ []) ≡ linked_primary
 unfolding primary_with digits
 twice_is_called_through_a_trampoline = search (rules, the_lemmas)
@@ -158,7 +159,8 @@ twice_moves = search (rules, the_lemmas)
 abbrev pub number : GlobalDef
 number = record { ty = record { ty = valt.I32; mutable = false }; init = const.I32 (pos 0) }
 
--- Function 0 is imported. Function 1, which is exported, calls function 2 in a block, and functions 2 and 3 are to move: they call each other, and function 2 names
+-- Function 0 is imported. Function 1, which is exported, calls function 2 in a block, and functions
+-- 2 and 3 are to move: they call each other, and function 2 names
 -- function 3 by `ref.func`, calls functions 0 and 1, and names a global and a memory.
 abbrev pub sharing : Module
 sharing = record empty {
@@ -207,7 +209,7 @@ the_secondary_module_imports_it = search (rules, the_lemmas)
 
 -- ---- several secondary modules ----
 
--- both functions move, each to a secondary module of its own
+-- Both functions move, each to a secondary module of its own.
 both_are_called_through_slots : primary_with (λ slot. numbered_placeholder (48 + slot)) (37 ∷ []) calling (0 ∷ 1 ∷ []) ≡ record calling {
   imports = import (numbered_placeholder 48) (48 ∷ []) (im.Func 0) ∷ import (numbered_placeholder 49) (49 ∷ []) (im.Func 0) ∷ [];
   funcs = func 0 (i.I32Const (pos 0) ∷ i.CallIndirect 0 0 ∷ []) ∷ [];
@@ -231,7 +233,8 @@ the_second_fills_the_slot_behind : secondary_with names calling (0 ∷ 1 ∷ [])
 unfolding secondary_with digits
 the_second_fills_the_slot_behind = search (rules, the_lemmas)
 
--- which slots these have, and a module without functions behind one slot
+-- The slots of a secondary module with two functions, and those of a module without functions that
+-- follows a module with one slot.
 the_pair_has_all_slots : HasSlots (2 ∷ 3 ∷ []) (2 ∷ 3 ∷ []) 0
 the_pair_has_all_slots = record { earlier = []; later = []; all = refl; count = refl }
 
@@ -246,7 +249,8 @@ one_may_have_none = record { earlier = 0 ∷ []; later = 1 ∷ []; all = refl; c
 abbrev pub referring : GlobalDef
 referring = record { ty = record { ty = valt.Ref func_ref; mutable = false }; init = const.Func 1 }
 
--- One table is imported and one defined. Functions 0 and 1 are to move: the first, which has locals, calls through the second table and is the start; a global refers
+-- One table is imported and one defined. Functions 0 and 1 are to move: the first, which has
+-- locals, calls through the second table and is the start; a global refers
 -- to the second.
 abbrev pub filling : Module
 filling = record empty {
@@ -284,7 +288,7 @@ it_comes_behind_the_tables_that_are_imported = search (rules, the_lemmas)
 
 -- ---- faults ----
 
--- "g" of "placeholder" is imported
+-- The import is "g" of the namespace "placeholder".
 abbrev pub holding_import : Import
 holding_import = import placeholder_word (103 ∷ []) (im.Global (number.ty))
 
@@ -294,7 +298,7 @@ the_namespace_is_taken = refl
 no_import_has_it : namespace_taken placeholder_word linked ≡ None
 no_import_has_it = refl
 
--- the export of the slot table has the name of another
+-- The name for the export of the slot table is already the name of an export.
 its_name_is_taken : prefix_taken (37 ∷ []) (adding_as slots_word) (0 ∷ []) ≡ Some slots_word
 its_name_is_taken = search (rules, the_lemmas)
 
@@ -304,7 +308,7 @@ no_export_has_it = search (rules, the_lemmas)
 two_parameters_move : moved_params adding (0 ∷ []) ≡ 2
 two_parameters_move = refl
 
--- the namespace is told before the prefix, also where nothing moves
+-- A taken namespace is reported before a taken prefix, even where no function moves.
 the_namespace_comes_first : split_fault names (record (adding_as slots_word) { imports = holding_import ∷ [] }) (0 ∷ []) ≡ Some (NamespaceTaken 0)
 the_namespace_comes_first = refl
 

@@ -12,7 +12,7 @@ use Rattle.merge_spec.specs.declared.parts.Part as code
 use Rattle.wasm_tree_spec.specs.Prelude.{Module}
 use Rattle.tools_cli.specs.Prelude.{Text, Source, are_apart, parts_of}
 
--- a borrowed word that is read nowhere
+-- A borrowed word as a default that no proof reads.
 unfoldable pub no_word : Bor Text
 no_word = record { ref_ptr = (0, 0); now = [] }
 
@@ -35,7 +35,7 @@ and_false false b e = e
 any_one_more : (x y : Text) (ys rest : List Text) → list_any (bytes_eq y) (ys ++ x ∷ rest) ≡ (list_any (bytes_eq y) ys || (bytes_eq x y || list_any (bytes_eq y) rest))
 any_one_more x y ys rest = list_any-append (bytes_eq y) ys (x ∷ rest) ∙ ap (λ b. list_any (bytes_eq y) ys || (b || list_any (bytes_eq y) rest)) (same_texts.symm y x)
 
--- one name more, unlike those before it
+-- Distinct names stay distinct with one more name that differs from all of them.
 apart_one_more : (xs : List Text) (x : Text) → are_apart xs ≡ true → list_any (bytes_eq x) xs ≡ false → are_apart (xs ++ x ∷ []) ≡ true
 apart_one_more [] x a n = refl
 apart_one_more (y ∷ ys) x a n =
@@ -55,7 +55,7 @@ found_or_not x y ys rest true e later h =
     ap (λ b. not b && are_apart (ys ++ x ∷ rest)) found
 found_or_not x y ys rest false e later h = and_false (list_any (bytes_eq y) (ys ++ x ∷ rest)) (are_apart (ys ++ x ∷ rest)) (later h)
 
--- a name that came before
+-- Names are not distinct if one occurs before.
 not_apart : (xs : List Text) (x : Text) (rest : List Text) → list_any (bytes_eq x) xs ≡ true → are_apart (xs ++ x ∷ rest) ≡ false
 not_apart [] x rest h = cc
 not_apart (y ∷ ys) x rest h = found_or_not x y ys rest (bytes_eq x y) refl (not_apart ys x rest) h

@@ -1,4 +1,5 @@
--- What an evaluation of constructors decides: from its parts, that it decides something, and that it is one.
+-- The decision of a ctor-eval: how it follows from its parts, that it exists, and that it is
+-- unique.
 use Rattle.base_lists.proofs.Common.{◌≡◌, ◌∙◌, ◌⊎◌, inl, inr, refl, sym, ap, ap₂, subst, List, [], ◌∷◌, length, Option, Some, None, option_map, arith, option_or}
 use Rattle.wasm_tree_spec.specs.Prelude.{Which, Module}
 use Rattle.module_limits.specs.Counts.{over_limit}

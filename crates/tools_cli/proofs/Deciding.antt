@@ -1,4 +1,4 @@
--- From the inputs of a task to its job.
+-- The job of a task, from the inputs of the task.
 use Rattle.base_lists.proofs.Common.{◌≡◌, ◌∙◌, sym, refl, ap, subst, Bool, true, false, cond, map, ℕ, zero, suc, ◌≤◌, List, [], ◌∷◌, ◌++◌, take, drop, length, arith, Contains, list_all}
 use Rattle.std.proofs.Common.{length-append}
 use Rattle.tools_cli.specs.Prelude.{Text, MetadceTask, SplitTask, CtorEvalTask, SampleTask, Task, Merge, Metadce, Split, CtorEval, Sample, many_of, modules_of, texts_of, inputs_of, Job, Usage, Refused, Done, Output, Decision, Refuses, Makes, not_linked, not_joined, merged, Reduces, no_graph}
@@ -34,18 +34,18 @@ length_names : (xs : List Input) → length (map (λ (e : NamedFile). e.0) (inpu
 length_names [] = refl
 length_names (x ∷ xs) = ap suc (length_names xs)
 
--- there is an input for each module
+-- A task that has all inputs has an input for each module.
 pub modules_there : (t : Task) (xs : List Input) → map (λ (e : NamedFile). e.0) (input_entries xs) ≡ inputs_of t → length (modules_of t) ≤ length xs
 modules_there t xs e =
     let all : length xs ≡ length (modules_of t ++ texts_of t) = sym (length_names xs) ∙ ap length e in
     let both = length-append (modules_of t) (texts_of t) in
     omega arith
 
--- and one for each file
+-- A task that has all inputs has an input for each file.
 pub inputs_there : (t : Task) (xs : List Input) → map (λ (e : NamedFile). e.0) (input_entries xs) ≡ inputs_of t → length xs ≡ length (inputs_of t)
 inputs_there t xs e = sym (length_names xs) ∙ ap length e
 
--- no task's modules may have several memories
+-- No task allows modules with several memories.
 pub one_memory : (t : Task) → many_of t ≡ false
 one_memory (Merge merge) = refl
 one_memory (Metadce metadce) = refl
@@ -71,11 +71,11 @@ job_not_loaded t inputs n files count first text fails =
 
 -- ---- what a job writes and prints ----
 
--- the contents of the files that a task reads behind its modules
+-- The contents of the files that a task reads behind its modules.
 abbrev pub text_contents : Task → List NamedFile → List Text
 text_contents task files = contents_of (drop (length (modules_of task)) files)
 
--- each is of a file that the task may write where these are the other texts that it reads
+-- Each of these names is that of a file that the task may write if it reads these other texts.
 abbrev pub AreNamed : Task → List Text → List Text → Type 0
 AreNamed t texts names = (name : Text) → Contains names name → Contains (outputs_of t texts) name
 

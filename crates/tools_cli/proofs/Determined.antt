@@ -1,4 +1,4 @@
--- A command line has one job.
+-- A command line has at most one job.
 use Rattle.base_lists.proofs.Common.{Bool, take, zero, suc, ltb, ◌-◌, ◌↔◌, ◌≡◌, ◌∙◌, sym, refl, ap, ap₂, subst, inl, inr, ℕ, List, [], ◌∷◌, Option, Some, None, Result, Ok, Err, false, length, get}
 use Rattle.wasm_bytes.specs.Prelude.{IsBytes}
 use Rattle.tool_io.specs.FilesAndSinks.{FileContents}
@@ -23,21 +23,22 @@ use Rattle.merge_spec.specs.Prelude.{link_fault}
 use Rattle.merge_spec.specs.declared.faults.LinkFault.{LinkFault}
 use Rattle.merge_spec.specs.declared.faults.JoinFault.{JoinFault}
 
--- bytes spell one tree, and what is spelled within the limits has no fault
+-- Bytes spell at most one tree, and they have no fault exactly if they spell a tree within the
+-- limits.
 abbrev pub TreeIsOne : Type 0
 TreeIsOne = (many : Bool) (bytes : List ℕ) (one other : Module) → Spells bytes one many → Spells bytes other many → one ≡ other
 
 abbrev pub SpelledHasNoFault : Type 0
 SpelledHasNoFault = (many : Bool) (bytes : List ℕ) → IsBytes bytes → (read_fault bytes many ≡ None) ↔ ((tree : Module) × Spells bytes tree many × Within bytes many)
 
--- there is one first invalid item, and none of a tree that is accepted
+-- A tree has at most one first invalid item, and none if it is accepted.
 abbrev pub FirstIsOne : Type 0
 FirstIsOne = (many : Bool) (tree : Module) (one other : Invalid) → IsFirstInvalid tree many one → IsFirstInvalid tree many other → one ≡ other
 
 abbrev pub NoneIsFirst : Type 0
 NoneIsFirst = (many : Bool) (tree : Module) (item : Invalid) → IsValid tree → (many ≡ false → IsSingle tree) → IsFirstInvalid tree many item → ⊥
 
--- what is known of reading, of validity, of reach and of names
+-- The laws of other crates on reading, on validity, on reach and on names.
 pub record Known : Type 0 where
   pub marks : ExactMarksAreOne
   pub names : NamesAreRead
@@ -74,12 +75,12 @@ loads_once k many file bytes are one other (invalid tree item h first) (invalid 
     let P : Module → Type 0 = λ t. IsFirstInvalid t many item in
     ap (λ i. Err (invalid_text file i)) (k.first many tree' item item' (subst P (same_tree k many bytes tree tree' h h') first) first')
 
--- the contents of the entries are bytes
+-- The contents of all these files are bytes.
 abbrev pub AreBytes : List NamedFile → Type 0
 AreBytes [] = Unit {0}
 AreBytes (e ∷ es) = IsBytes e.1 × AreBytes es
 
--- what was gathered are bytes, where the files hold bytes
+-- Gathered contents are bytes if the files hold bytes.
 first_bytes_are : (file : NamedFile) (g : Gathered) (inputs : List NamedFile) → IsBytes file.1 → ((rest : List NamedFile) → g ≡ Whole rest → AreBytes rest) → add_first file g ≡ Whole inputs → AreBytes inputs
 first_bytes_are file (Whole rest) inputs are more e = subst AreBytes (whole_is (file ∷ rest) inputs e) (are, more rest refl)
 first_bytes_are file (Lacks name) inputs are more e = absurd (cc)
@@ -102,7 +103,7 @@ decoding_is_unique reads many file bytes are tree tree' h k = let same : ◌≡�
 two_ways : Known → (many : Bool) (file bytes : Text) → IsBytes bytes → (tree : Module) (text : Text) → LoadsFile many file bytes (Ok tree) → LoadsFile many file bytes (Err text) → ⊥
 two_ways reads many file bytes are tree text h k = let same : Ok tree ≡ Err text = loads_once reads many file bytes are (Ok tree) (Err text) h k in cc
 
--- all files load as the same trees, or the same one fails
+-- Files load as the same trees each time, or the same file fails.
 trees_once : Known → (many : Bool) (files : List NamedFile) (trees trees' : List Module) → AllLoad many files trees → AllLoad many files trees' → AreBytes files → trees ≡ trees'
 trees_once k many [] [] [] h h' are = refl
 trees_once k many (file ∷ files) (tree ∷ trees) (tree' ∷ trees') h h' are = ap₂ (λ (t : Module) (ts : List Module). t ∷ ts) (decoding_is_unique k many file.0 file.1 are.0 tree tree' h.0 h'.0) (trees_once k many files trees trees' h.1 h'.1 are.1)
@@ -128,7 +129,7 @@ load_or_fail k many (file ∷ files) (tree ∷ trees) text h (inr (tree', loads,
 text_once : (one other : Text) → Some one ≡ Some other → one ≡ other
 text_once one other e = cc
 
--- what merging parts comes to
+-- The text of the refusal of parts that do not link is unique.
 link_text_once : (files : List Text) (parts : List Part) (many : Bool) (fault fault' : LinkFault) (text text' : Text) → link_fault parts many ≡ Some fault → link_fault parts many ≡ Some fault' → link_text files fault ≡ Some text → link_text files fault' ≡ Some text' → text ≡ text'
 link_text_once files parts many fault fault' text text' h h' e e' =
     let both : Some fault ≡ Some fault' = sym h ∙ h' in
@@ -153,7 +154,7 @@ merges_once merge trees one other (merged tree is) (merged tree' is') =
     let same : tree ≡ tree' = cc in
     ap (λ (t : Module). Makes (record { name = merge.output; tree = t; custom = [] } ∷ []) []) same
 
--- the contents of a first file are bytes
+-- The contents of the first file are bytes.
 abbrev pub FirstIsBytes : List Text → Type 0
 FirstIsBytes contents = (bytes : Text) (more : List Text) → contents ≡ bytes ∷ more → IsBytes bytes
 

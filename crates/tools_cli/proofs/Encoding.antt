@@ -1,4 +1,4 @@
--- Outputs that are compared with the limit, and encoded, one after another.
+-- Outputs are compared with the limit and encoded one by one.
 use Rattle.base_lists.proofs.Common.{◌≡◌, ◌∙◌, sym, refl, ap, Bool, true, false, not, ltb, ◌&&◌, map, ℕ, suc, ◌+◌, ◌<◌, ◌≤◌, List, [], ◌∷◌, ◌++◌, append-nil, add-one, drop, drop-cons, length, get_or, arith, list_all, drop_all, nat_tests}
 use Rattle.wasm_write_spec.specs.Plain.{plain}
 use Rattle.wasm_tree_spec.specs.Prelude.{Module}
@@ -25,7 +25,7 @@ one_exceeds whole xs i x lt is large e = e ∙ ap (list_all is_within) (values_a
 pub none_left : (whole : Bool) (xs : List Output) (i : ℕ) → length xs ≤ i → whole ≡ list_all is_within (output_values (drop i xs)) → whole ≡ true
 none_left whole xs i over e = e ∙ ap (λ l. list_all is_within (output_values l)) (drop_all i xs over)
 
--- one output more is encoded
+-- The list of encoded outputs, extended by one output.
 pub encoded_more : (whole : List NamedFile) (writes more : List Write) (write : Write) (output : Output) (outputs rest : List Output) → more ≡ writes ++ write ∷ [] → outputs ≡ output ∷ rest → write_entry write ≡ spelled_output (output_value output)
     → write_entries writes ++ map spelled_output (output_values outputs) ≡ whole → write_entries more ++ map spelled_output (output_values rest) ≡ whole
 encoded_more whole writes more write output outputs rest added first is e =

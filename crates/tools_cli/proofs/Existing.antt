@@ -31,11 +31,11 @@ use Rattle.split_plan.specs.Causes.{FaultsHaveCauses}
 use Rattle.tools_cli.proofs.Loading.{as_many}
 use Rattle.tools_cli.proofs.Determined.{AreBytes, SpelledHasNoFault, FirstIsBytes, gathered_bytes, first_are_bytes, first_is_bytes}
 
--- a tree is accepted, or has a first invalid item
+-- A tree is accepted or has a first invalid item.
 abbrev pub IsDecided : Bool → Module → Type 0
 IsDecided many tree = IsAccepted many tree ⊎ ((item : Invalid) × IsFirstInvalid tree many item)
 
--- what is known of reading, of validity, of linking, of reach, of names and of words
+-- The laws of other crates on reading, on validity, on linking, on reach, on names and on words.
 pub record Known : Type 0 where
   pub marks : ExactMarksExist
   pub names : NamesAreRead
@@ -146,7 +146,7 @@ over_inputs k t inputs are enough every (inl (trees, all)) =
     let told = task_told k t trees (contents_of inputs) (first_is_bytes inputs are) each (length-map inputs (λ (e : NamedFile). e.1) ∙ every) in
     (job_of told.0, decided trees told.0 all told.1)
 
--- as many files as names
+-- The number of gathered files is the number of names.
 first_count : (file : NamedFile) (g : Gathered) (inputs : List NamedFile) (n : ℕ) → ((rest : List NamedFile) → g ≡ Whole rest → length rest ≡ n) → add_first file g ≡ Whole inputs → length inputs ≡ suc n
 first_count file (Whole rest) inputs n count e = let same : file ∷ rest ≡ inputs = cc in sym (ap length same) ∙ ap suc (count rest refl)
 first_count file (Lacks name) inputs n count e = absurd (cc)

@@ -1,4 +1,6 @@
--- A job that is done keeps what it read: its decision is sound, by the laws of its command, and what is written of a sound decision is kept, of any command.
+-- A job that ends done is faithful to the modules that it read: its decision is sound, by the laws
+-- of its command, and the files that are written of a sound decision hold its outputs, whatever the
+-- command.
 use Rattle.base_lists.proofs.Common.{IsTrue, Bool, true, false, not, cond, ltb, ◌≡◌, ◌∙◌, refl, sym, ap, subst, ℕ, zero, suc, ◌-◌, List, [], ◌∷◌, ◌++◌, append-nil, take, length, Option, Some, None, IfSome, IfOk, OnOk, Result, Ok, Err, ◌<◌, ◌≤◌, ◌^◌, arith, map, option_map, inl, inr, IsUtf8, ◌||◌}
 use Rattle.base_lists.proofs.Common.{◌&&◌, nat_lt, option_or, and_parts, nat_tests, get, list_all, list_any, cons_option, bytes_eq, is_eq-slice_cmp, map_twice}
 use Rattle.std.specs.FinMap.{insert, get-insert}
@@ -60,15 +62,17 @@ use Rattle.module_limits.specs.Counts.{or_above, over_limit}
 use Rattle.wasm_write_spec.specs.Plain.{plain}
 use Rattle.wasm_write_proof.specs.Ranges.{InRange}
 
--- a part is valid, and a u32 counts what it has
+-- A part is valid, and a u32 can count what it has.
 abbrev pub IsSound : Part → Type 0
 IsSound p = IsValid p.«module» × IsBounded p.«module»
 
--- its numbers are in range and its bodies name memory 0 alone, so that its canonical encoding spells it
+-- The numbers of a module are in range and its bodies name no memory but memory 0, so its canonical
+-- encoding spells it.
 abbrev IsWritable : Module → Type 0
 IsWritable m = InRange m × IsTrue (memory_zero_funcs m.funcs)
 
--- what is known of the canonical encoding, of merged modules, of what is left of one, of both of a split and of one after evaluated constructors
+-- The laws of other crates on the canonical encoding, on merged modules, on what a sweep leaves of
+-- a module, on the modules of a split, and on a module after evaluated constructors.
 pub record Respelled : Type 0 where
   pub plainly : (tree : Module) → IsWritable tree → length (plain tree) < 2 ^ 32 → Spells (plain tree) tree false
   pub ranges : (bytes : List ℕ) (tree : Module) → Spells bytes tree false → InRange tree
@@ -125,7 +129,8 @@ sound_at P f [] h n m e = absurd (cc)
 sound_at P f (p ∷ parts) h zero m e = let same : p.«module» ≡ m = cc in subst P same (f p h.0)
 sound_at P f (p ∷ parts) h (suc n) m e = sound_at P f parts h.1 n m e
 
--- parts that are joined have no fault, and this is the joined module
+-- Parts that are joined have no conflict of names and no count above its limit, and the result is
+-- the merged module.
 joins_to : (name : Option Text) (which : Option Which) (m tree : Module) → merged_outcome name which m ≡ Ok tree → (name ≡ None) × (which ≡ None) × (m ≡ tree)
 joins_to (Some name) which m tree e = absurd (cc)
 joins_to None (Some which) m tree e = absurd (cc)
@@ -146,7 +151,8 @@ merged_is_sound k parts mode tree sound ranged is =
     let P : Module → Type 0 = λ m. IsAccepted false m × IsWritable m × ObservationallyEquivalent parts mode m in
     subst P joins.2 (record { valid = valid; single = λ e. single }, (k.in_range parts mode ranged valid single (k.sizes parts mode can), k.memory parts mode valid single (k.sizes parts mode can)), k.same parts mode can)
 
--- what was gathered of a first name, and the rest
+-- Gathered files begin with the file of the first name, and the rest is gathered of the other
+-- names.
 abbrev pub IsFirstFile : Text → Option Text → (ℕ → Gathered) → List NamedFile → Type 0
 IsFirstFile name held rest files = (bytes : Text) × (n : ℕ) × (more : List NamedFile) × (held ≡ Some bytes) × (rest n ≡ Whole more) × (files ≡ (name, bytes) ∷ more)
 
@@ -167,20 +173,20 @@ first_file name left None rest files e = absurd (cc)
 first_file name left (Some bytes) rest files e =
     first_of_whole name bytes (left - length bytes) rest (rest (left - length bytes)) files refl (short_enough (ltb left (length bytes)) name (add_first (name, bytes) (rest (left - length bytes))) files e)
 
--- what was gathered is what the files hold
+-- The gathered contents are those of the files.
 pub gathered_held : (files : FileContents) (names : List Text) (most : ℕ) (inputs : List NamedFile) → gathered names files most ≡ Whole inputs → map (get files) names ≡ map (λ (e : NamedFile). Some e.1) inputs
 gathered_held files [] most inputs e = ap (map (λ (e : NamedFile). Some e.1)) (whole_is [] inputs e)
 gathered_held files (name ∷ names) most inputs e =
     let (bytes, n, more, there, rest, is) = first_file name most (get files name) (gathered names files) inputs e in
     ap (λ (o : Option Text). o ∷ map (get files) names) there ∙ ap (λ (l : List (Option Text)). Some bytes ∷ l) (gathered_held files names n more rest) ∙ ap (map (λ (e : NamedFile). Some e.1)) (sym is)
 
--- what is loaded is read and accepted
+-- A tree that is loaded is read from the bytes and accepted.
 loaded_is : (many : Bool) (file bytes : Text) (r : Result Module Text) → LoadsFile many file bytes r → IfOk r (λ tree. IsReadAs many bytes tree × IsAccepted many tree)
 loaded_is many file bytes r (loaded tree h accepted) = (h, accepted)
 loaded_is many file bytes r (faulty fault text e told) = tt
 loaded_is many file bytes r (invalid tree item h first) = tt
 
--- files that load hold the modules; more files may be read behind them
+-- Files that load hold the modules. More files may be read behind them.
 no_trees : (many : Bool) (before : FileContents) (trees : List Module) → AllLoad many [] trees → HoldModules many before [] trees
 no_trees many before [] h = tt
 no_trees many before (tree ∷ trees) h = absurd h
@@ -200,7 +206,7 @@ files_hold many before [] more most files trees e h = no_trees many before trees
 files_hold many before (name ∷ names) more most files trees e h =
     hold_first many before name names more files trees (first_file name most (get before name) (gathered (names ++ more) before) files e) h (λ n rest trees e h. files_hold many before names more n rest trees e h)
 
--- the parts of a merge are sound and in range
+-- The parts of a merge are sound and their numbers are in range.
 loaded_sound : Respelled → (file bytes : Text) (tree : Module) (name : Option Text) → LoadsFile false file bytes (Ok tree) → IsSound (record { name = name; «module» = tree }) × InRange tree
 loaded_sound k file bytes tree name h =
     let is = loaded_is false file bytes (Ok tree) h in
@@ -223,11 +229,12 @@ parts_in_range k (s ∷ sources) (file ∷ files) (tree ∷ trees) h = ((loaded_
 abbrev output_trees : List Output → List Module
 output_trees outputs = map (λ (o : Output). o.tree) outputs
 
--- an output is valid, and its bytes are a canonical encoding that spells it
+-- An output is valid, and its canonical encoding, without custom sections, spells it.
 abbrev IsSoundOutput : Bool → Output → Type 0
 IsSoundOutput many o = IsAccepted many o.tree × IsWritable o.tree × (o.custom ≡ [])
 
--- all that is kept of a task that makes these outputs, but for what the files hold
+-- A task makes these outputs soundly. This is all that faithfulness asks for, except for the
+-- contents of the files.
 pub record MakesSoundly (task : Task) (trees : List Module) (contents : List Text) (outputs : List Output) : Type 0 where
   pub found : Findings task
   pub made : AreMade task trees contents found (output_trees outputs)
@@ -308,7 +315,7 @@ metadce_is_sound k metadce files (tree ∷ other ∷ trees) decision loads h = a
 
 -- ---- both modules of a split ----
 
--- what has no fault
+-- Two tests have no fault if the first fault of both is none.
 none_of_both : {A : Type 0} (a b : Option A) → option_or a b ≡ None → (a ≡ None) × (b ≡ None)
 none_of_both None b e = (refl, e)
 none_of_both (Some x) b e = absurd (cc)
@@ -317,7 +324,7 @@ none_from : {A B : Type 0} (f : A → B) (o : Option A) → option_map f o ≡ N
 none_from f None e = refl
 none_from f (Some x) e = absurd (cc)
 
--- no count is above its limit: neither this one nor the others
+-- No later count is above its limit if no count is.
 none_behind : (n : ℕ) (which : Which) (a b : Option Which) → or_above n which (option_or a b) ≡ None → (a ≡ None) × (b ≡ None)
 none_behind n which a b e = by (nat_lt (limit which) n) e
   where
@@ -325,7 +332,8 @@ none_behind n which a b e = by (nat_lt (limit which) n) e
     by true e = absurd (cc)
     by false e = none_of_both a b e
 
--- neither the namespace nor an added name is taken, and no count of either module is above its limit
+-- Neither the namespace nor an added name is taken, and no count of either module is above its
+-- limit.
 record HasNoFault (names : SplitNames) (m : Module) (moved : List ℕ) : Type 0 where
   pub namespace : namespace_taken names.placeholder_namespace m ≡ None
   pub prefix : prefix_taken names.export_prefix m moved ≡ None
@@ -339,7 +347,7 @@ no_fault names m moved e =
     let both = none_behind (moved_params m moved) Trampolines (over_limit (primary names m moved)) (over_limit (secondary names m moved)) (none_from TooMany (too_many names m moved) second.1) in
     record { namespace = none_from NamespaceTaken (namespace_taken names.placeholder_namespace m) first.0; prefix = none_from PrefixTaken (prefix_taken names.export_prefix m moved) second.0; primary_fits = both.0; secondary_fits = both.1 }
 
--- functions that words tell can move
+-- The plan that the words of a split give is a plan of the module.
 plan_shaped : Respelled → (split : SplitTask) (tree : Module) (names : List FuncName) → IsPlan tree (words_plan split tree names)
 plan_shaped k split tree names = k.planned tree (is_wanted tree names split.words.split split.words.keep)
 
@@ -448,7 +456,7 @@ sample_sound k sample (some, few) = let both = k.samples sample.seed sample.coun
 sample_in_range : (sample : SampleTask) → IsCounted (Sample sample) → Every (λ (p : Part). InRange p.«module») (sample_parts sample)
 sample_in_range sample (some, few) = (first_in_range sample.seed sample.count few, (second_in_range sample.seed sample.count some few, tt))
 
--- the one output, if there is one
+-- The output of a sample, if there is one, is the merge of its parts and is sound.
 abbrev IsEachMerged : SampleTask → Module → List Output → Type 0
 IsEachMerged sample tree outputs =
     Every (AreMerged false (sample_parts sample) sample_merge.mode) (output_trees outputs) × Every (IsSoundOutput false) outputs
@@ -491,7 +499,7 @@ decision_is_sound k (Split split) files trees decision text counted are loads h 
 decision_is_sound k (CtorEval eval) files trees decision text counted are loads h = eval_is_sound k eval files trees decision are loads h
 decision_is_sound k (Sample sample) files trees decision text counted are loads h = sample_is_sound k sample trees (contents_of files) decision counted h
 
--- no two outputs of a task have one name
+-- No two outputs of a task have the same name.
 abbrev AreOutputsApart : Task → Type 0
 AreOutputsApart task = (contents : List Text) → are_apart (output_names task contents) ≡ true
 
@@ -508,7 +516,7 @@ outputs_apart words (Sample sample) e contents = by sample.output
 
 -- ---- what is written ----
 
--- the file under a name that was just written, and under another
+-- The file that was just written holds its bytes, and a file of another name is unchanged.
 written_there : (files : FileContents) (name bytes : Text) → get (insert files name bytes) name ≡ Some bytes
 written_there files name bytes = get-insert nat_list_cmp_total files name bytes name ∙ ap (λ b. cond b (Some bytes) (get files name)) ((eq_by_cmp_equiv nat_list_cmp_total).refl name)
 
@@ -522,7 +530,7 @@ others_stay name (o ∷ outputs) files e =
     let unlike = neither (bytes_eq name o.name) (list_any (bytes_eq name) (map (λ (o : Output). o.name) outputs)) e in
     others_stay name outputs (insert files o.name (plain o.tree ++ o.custom)) unlike.1 ∙ written_elsewhere files name o.name (plain o.tree ++ o.custom) unlike.0
 
--- an output within the limit whose bytes are the canonical encoding of its tree spells it
+-- A sound output within the limit is spelled by its canonical encoding.
 output_spells : Respelled → (o : Output) → is_within o ≡ true → IsSoundOutput false o → Spells (plain o.tree ++ o.custom) o.tree false
 output_spells k o within is =
     let short : length (plain o.tree) < 2 ^ 32 = few (ltb most_output (length (plain o.tree))) refl within in
@@ -533,7 +541,7 @@ output_spells k o within is =
     few true e h = cc
     few false e h = grind (arith, nat_tests)
 
--- so after all writes each file spells its output, where they have names apart
+-- Each file spells its output after all writes, if the outputs have distinct names.
 outputs_written : Respelled → (outputs : List Output) (files : FileContents) → are_apart (map (λ (o : Output). o.name) outputs) ≡ true → list_all is_within outputs ≡ true → Every (IsSoundOutput false) outputs
     → HoldModules false (made (map spelled_output outputs) files) (map (λ (o : Output). o.name) outputs) (output_trees outputs)
 outputs_written k [] files apart within each = tt
@@ -561,7 +569,8 @@ JobKept task before Usage = Unit {0}
 JobKept task before Missing = Unit {0}
 JobKept task before (Refused text) = Unit {0}
 
--- the files hold the outputs under the names of the task, whether it allows several memories or not
+-- The files hold the outputs under the names of the task, whether it allows several memories or
+-- not.
 held_by_name : (many : Bool) (after : FileContents) (names others : List Text) (trees : List Module) → many ≡ false → names ≡ others → HoldModules false after names trees → HoldModules many after others trees
 held_by_name many after names others trees one same h =
     let P : Bool → Type 0 = λ b. HoldModules b after others trees in
@@ -632,7 +641,7 @@ job_keeps k words before job text are (asked task _ e h) = words_keep words task
 pub done_is_faithful : Respelled → (words : List Text) (before : FileContents) (writes : List NamedFile) (lines : Text) → SplitWordsAreText words → ReadsBytes words before → HasJob words before (Done writes lines) → IsFaithful words before (made writes before)
 done_is_faithful k words before writes lines text are h = job_keeps k words before (Done writes lines) text are h
 
--- and so does a run that ends done
+-- A run that ends done is faithful.
 abbrev pub DoneIsFaithful : Type 0
 DoneIsFaithful = (words : List Text) (before : FileContents) (writes : List NamedFile) (lines : Text) → SplitWordsAreText words → ReadsBytes words before → HasJob words before (Done writes lines) → IsFaithful words before (made writes before)
 
@@ -640,7 +649,7 @@ pub end_is_faithful : DoneIsFaithful → (held new : Option FileContents) (words
 end_is_faithful law None new words out out' text are h = tt
 end_is_faithful law (Some before) new words out out' text are (writes, lines, job, (made_all, gains)) = (made writes before, made_all, law words before writes lines text are job)
 
--- inputs that are bytes come from files that hold bytes
+-- Files whose gathered contents are bytes hold bytes.
 pub read_bytes : (held : Option FileContents) (task : Task) (inputs : List NamedFile) → IfSome held (λ a. gathered (inputs_of task) a most_input ≡ Whole inputs) → Every (λ (e : NamedFile). IsBytes e.1) inputs → IfSome held (HoldBytesAt (inputs_of task))
 read_bytes None task inputs h are = tt
 read_bytes (Some a) task inputs h are = all_read_are a (inputs_of task) inputs (gathered_held a (inputs_of task) most_input inputs h) are
@@ -649,7 +658,7 @@ pub on_ok : {A E P : Type 0} (r : Result A E) → P → OnOk r P
 on_ok (Ok x) p = p
 on_ok (Err e) p = tt
 
--- and those of the task are those of its words
+-- Words ask for one task, so the files that the words read hold bytes if those of the task do.
 pub words_read : (held : Option FileContents) (words : List Text) (task : Task) → task_of words ≡ Some task → IfSome held (HoldBytesAt (inputs_of task)) → IfSome held (ReadsBytes words)
 words_read None words task e h = tt
 words_read (Some a) words task e h = λ other asked. let both : Some task ≡ Some other = sym e ∙ asked in let same : task ≡ other = cc in subst (λ (t : Task). HoldBytesAt (inputs_of t) a) same h

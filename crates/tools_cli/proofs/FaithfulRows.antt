@@ -1,5 +1,7 @@
--- Small runs of what is claimed of each command, computed: what is seen of the modules that a task reads and of the outputs that it makes of them; and of each a wrong output
--- that the first half of the claim refuses, by moves and steps for which the second half stands, and one that the second half refuses, where the first stands.
+-- Small runs for the claim of each command, computed: the traces of the modules that a task reads
+-- and of the outputs that it makes of them. For each command there are also two wrong outputs: one
+-- breaks the first half of the claim, by moves and steps for which the second half holds, and one
+-- breaks the second half where the first holds.
 use Rattle.base_lists.proofs.Common.{◌≡◌, refl, sym, subst, ℕ, List, [], ◌∷◌, true, false, Option, Some, None, rules, pos, IsTrue, codes}
 use Rattle.std.specs.Fmt.{digits}
 use Rattle.wasm_tree.specs.declared.types.RefType.TheVariants.{Func as func_ref}
@@ -37,7 +39,7 @@ f = codes "f"
 abbrev pub nothing : FuncType
 nothing = record { params = []; results = [] }
 
--- it has one function, the f of own
+-- The environment offers one function, with the name `f` of the module `own`.
 abbrev offering : Environment
 offering = record { pair = (own, f); funcs = nothing ∷ []; table = None; memory = None; global = None } ∷ []
 
@@ -46,7 +48,8 @@ offering_is_one = refl
 
 -- ---- claims ----
 
--- The claim speaks of the environment, and this is seen there of its two worlds, by these moves: in so many steps, and in as many as the claim allows for these.
+-- The claim covers the environment, and its two worlds have these traces there, for these moves: in
+-- so many steps, and in as many steps as the claim allows in answer.
 pub record Shows (claim : Equivalence) (original written : List Event) : Type 0 where
   pub moves : List Move
   pub steps : ℕ
@@ -54,14 +57,15 @@ pub record Shows (claim : Equivalence) (original written : List Event) : Type 0 
   pub in_steps : (claim.original_world offering moves steps ≡ original) × (claim.written_world offering moves steps ≡ written)
   pub in_bounds : (claim.original_world offering moves (claim.original_bound steps) ≡ original) × (claim.written_world offering moves (claim.written_bound steps) ≡ written)
 
--- the two halves of a claim, by these moves in so many steps
+-- The two halves of a claim, for these moves and so many steps.
 abbrev pub FirstHalf : Equivalence → List Move → ℕ → Type 0
 FirstHalf claim moves n = IsPrefix (claim.original_world offering moves n) (claim.written_world offering moves (claim.written_bound n))
 
 abbrev pub SecondHalf : Equivalence → List Move → ℕ → Type 0
 SecondHalf claim moves n = IsPrefix (claim.written_world offering moves n) (claim.original_world offering moves (claim.original_bound n))
 
--- The claim does not hold, by its first half: by these moves, in so many steps, the first half breaks and the second does not.
+-- The claim does not hold because of its first half: for these moves and so many steps the first
+-- half fails and the second holds.
 pub record FirstRefuses (claim : Equivalence) : Type 0 where
   pub refused : Holds claim → ⊥
   pub moves : List Move
@@ -69,7 +73,8 @@ pub record FirstRefuses (claim : Equivalence) : Type 0 where
   pub first : FirstHalf claim moves steps → ⊥
   pub second : SecondHalf claim moves steps
 
--- The claim does not hold, by its second half: there the second half breaks and the first does not.
+-- The claim does not hold because of its second half: for these moves and so many steps the second
+-- half fails and the first holds.
 pub record SecondRefuses (claim : Equivalence) : Type 0 where
   pub refused : Holds claim → ⊥
   pub moves : List Move
@@ -77,21 +82,21 @@ pub record SecondRefuses (claim : Equivalence) : Type 0 where
   pub second : SecondHalf claim moves steps → ⊥
   pub first : FirstHalf claim moves steps
 
--- where the written world shows no more than its opening
+-- The first half fails if the trace of the written world ends at the linking.
 falls_short : (claim : Equivalence) (e : Event) (es : List Event) → Shows claim (Linked ∷ (e ∷ es)) (Linked ∷ []) → FirstRefuses claim
 falls_short claim e es s =
     let first : FirstHalf claim s.moves s.steps → ⊥ = rw (s.in_steps.0, s.in_bounds.1) (λ p. let k = p.1 in cc) in
     let second : SecondHalf claim s.moves s.steps = rw (s.in_steps.1, s.in_bounds.0) (e ∷ es, refl) in
     record { refused = λ holds. first (holds offering offering_is_one s.named s.moves s.steps).0; moves = s.moves; steps = s.steps; first = first; second = second }
 
--- where the original world shows no more than its opening
+-- The second half fails if the trace of the original world ends at the linking.
 goes_beyond : (claim : Equivalence) (e : Event) (es : List Event) → Shows claim (Linked ∷ []) (Linked ∷ (e ∷ es)) → SecondRefuses claim
 goes_beyond claim e es s =
     let second : SecondHalf claim s.moves s.steps → ⊥ = rw (s.in_steps.1, s.in_bounds.0) (λ p. let k = p.1 in cc) in
     let first : FirstHalf claim s.moves s.steps = rw (s.in_steps.0, s.in_bounds.1) (e ∷ es, refl) in
     record { refused = λ holds. second (holds offering offering_is_one s.named s.moves s.steps).1; moves = s.moves; steps = s.steps; second = second; first = first }
 
--- There is a claim, and this is so of it.
+-- A claim exists and has this property.
 abbrev pub IsClaimed : Option Equivalence → (Equivalence → Type 0) → Type 0
 IsClaimed None P = ⊥
 IsClaimed (Some claim) P = P claim
@@ -122,7 +127,8 @@ global n = record { ty = mutable_i32; init = const.I32 (pos n) }
 abbrev pub setting : Func
 setting = func 1 (i.I32Const (pos 7) ∷ i.GlobalSet 0 ∷ [])
 
--- f has this body, and a sets the global, which begins with 5, to 7; function 0 is the one of the environment
+-- The function `f` has this body. The function `a` sets the global, which begins with 5, to 7.
+-- Function 0 is that of the environment.
 abbrev pub with : List Instr → Module
 with body = record empty {
   imports = import own f (im.Func 1) ∷ [];
@@ -131,21 +137,21 @@ with body = record empty {
   exports = export f (ex.Func 1) ∷ export a (ex.Func 2) ∷ [];
 }
 
--- f calls function 0, and gives what the global holds
+-- This body of `f` calls function 0 and returns the value of the global.
 abbrev pub asking : List Instr
 asking = i.Call 0 ∷ i.GlobalGet 0 ∷ []
 
--- or f calls itself, which never ends
+-- This body of `f` calls `f`, which never ends.
 abbrev pub endless : List Instr
 endless = i.Call 1 ∷ []
 
 -- ---- what is done and seen ----
 
--- a function is called, and the environment's answers
+-- These moves call a function, and the environment answers its call.
 abbrev called : Text → List Move
 called name = Call name [] ∷ Answer [] ∷ []
 
--- f is called, a, and f again
+-- These moves call `f`, then `a`, and then `f` again.
 abbrev called_around : List Move
 called_around = Call f [] ∷ Answer [] ∷ Call a [] ∷ called f
 
@@ -155,7 +161,8 @@ asks = Asked (own, f) nothing []
 abbrev number : ℕ → Event
 number n = Returned (Number n ∷ [])
 
--- f gives this, a shows that, and f gives then this
+-- The trace in which `f` returns the first number, `a` causes the event, and `f` then returns the
+-- second number.
 abbrev gives : (first : ℕ) → Event → (then : ℕ) → List Event
 gives first event then = Linked ∷ asks ∷ number first ∷ event ∷ asks ∷ number then ∷ []
 
@@ -164,7 +171,7 @@ gives first event then = Linked ∷ asks ∷ number first ∷ event ∷ asks ∷
 abbrev pub merging : MergeTask
 merging = record { sources = record { file = codes "a.wasm"; name = a } ∷ record { file = codes "b.wasm"; name = b } ∷ []; output = codes "out.wasm"; mode = mode.Refuse }
 
--- the part b: g calls f of the part a
+-- The part `b`, whose function `g` calls `f` of the part `a`.
 abbrev pub calling : Module
 calling = record empty { imports = import a f (im.Func 0) ∷ []; funcs = func 0 (i.Call 0 ∷ []) ∷ []; exports = export (codes "g") (ex.Func 1) ∷ [] }
 
@@ -174,7 +181,8 @@ both body = record (with body) {
   exports = export f (ex.Func 1) ∷ export a (ex.Func 2) ∷ export (codes "g") (ex.Func 3) ∷ [];
 }
 
--- here and below: f has the one body in what is read, and the other in what is written
+-- Here and below `f` has the first body in the modules that are read and the second in those that
+-- are written.
 abbrev of_merge : (read written : List Instr) → Option Equivalence
 of_merge read written = equivalence (Merge merging) tt (with read ∷ calling ∷ []) (both written ∷ [])
 
@@ -195,7 +203,8 @@ merge_of_an_endless_part_refuses_an_end = goes_beyond _ asks (number 5 ∷ []) (
 abbrev pub reducing : MetadceTask
 reducing = record { file = codes "in.wasm"; graph_file = codes "graph.json"; output = codes "out.wasm" }
 
--- f is reached, with what its body names, and a is not (of the endless body below, which names less, more is kept than is reached)
+-- The function `f` is reached, with what its body names, and `a` is not. (With the endless body
+-- below, which names less, more is kept than is reached.)
 abbrev pub reached : Reached
 reached = record { nodes = true ∷ []; exports = true ∷ false ∷ []; imports = true ∷ []; funcs = true ∷ true ∷ false ∷ []; globals = true ∷ [] }
 
@@ -209,7 +218,7 @@ metadce_shows : IsClaimed (of_metadce asking asking) (λ claim. Shows claim (giv
 unfolding out-Instr denote.Hole.Carrier.out wrapped
 metadce_shows = record { moves = called_around; steps = 30; named = refl; in_steps = (refl, refl); in_bounds = (refl, refl) }
 
--- of an environment without that function nothing is claimed
+-- The claim does not cover an environment without that function.
 metadce_speaks_of_no_other : IsClaimed (of_metadce asking asking) (λ claim. claim.environments [] ≡ false)
 metadce_speaks_of_no_other = refl
 
@@ -223,7 +232,7 @@ metadce_of_an_endless_module_refuses_an_end = goes_beyond _ asks (number 5 ∷ [
 
 -- ---- split ----
 
--- the word f moves f
+-- The name `f` among the words moves the function `f`.
 abbrev pub splitting : SplitTask
 splitting = record {
   file = codes "in.wasm";
@@ -235,7 +244,7 @@ splitting = record {
 abbrev pub slots : TableType
 slots = record { ty = func_ref; limits = record { min = 1; max = Some 1 } }
 
--- the primary module, in which f is called through the slot
+-- The primary module, in which `f` is called through its slot.
 abbrev pub keeping : Module
 keeping = record (with []) {
   imports = import own f (im.Func 1) ∷ import b (codes "0") (im.Func 0) ∷ [];
@@ -245,7 +254,7 @@ keeping = record (with []) {
   elems = record { mode = elem.Active 0 (const.I32 (pos 0)); ty = func_ref; items = const.Func 1 ∷ [] } ∷ [];
 }
 
--- the secondary module
+-- The secondary module.
 abbrev pub moving : List Instr → Module
 moving body = record empty {
   imports = import a (codes "%f0") (im.Func 1) ∷ import a (codes "%slots") (im.Table slots) ∷ import a (codes "%g0") (im.Global mutable_i32) ∷ [];
@@ -309,7 +318,8 @@ eval_of_an_endless_module_refuses_an_end =
 
 -- ---- sample ----
 
--- of each sample that writes something the claim is that of a merge, and of one that writes nothing there is none
+-- The claim of a sample that writes a module is that of a merge, and a sample that writes none has
+-- no claim.
 samples_are_merges : (sample : SampleTask) (tree : Module) → equivalence (Sample sample) tt [] (tree ∷ []) ≡ Some (merged_equivalence (sample_parts sample) sample_merge.mode tree)
 samples_are_merges sample tree = refl
 
@@ -325,11 +335,11 @@ unary = record empty { types = record { params = I32 ∷ []; results = I32 ∷ [
 abbrev pub adding : Func
 adding = func 0 (i.LocalGet 0 ∷ i.I32Const (pos 1103527590) ∷ i.Bin I32Add ∷ [])
 
--- g0 passes its number on
+-- The function `g0` passes its number on.
 abbrev pub passing : List Instr
 passing = i.LocalGet 0 ∷ i.Call 0 ∷ []
 
--- f0 adds a number that is drawn, and g0 of the second module calls it
+-- The function `f0` adds a drawn number, and `g0` of the second module calls it.
 abbrev pub drawn : List Module
 drawn =
     record unary { funcs = adding ∷ []; exports = export (codes "f0") (ex.Func 0) ∷ [] }
@@ -339,18 +349,18 @@ pub they_are_drawn : sample_parts sampling ≡ parts_of sample_merge.sources dra
 unfolding digits
 they_are_drawn = search (rules, the_lemmas)
 
--- g0 has this body
+-- The function `g0` has this body.
 abbrev pub sampled : List Instr → Module
 sampled body = record unary { funcs = adding ∷ func 0 body ∷ []; exports = export (codes "f0") (ex.Func 0) ∷ export (codes "g0") (ex.Func 1) ∷ [] }
 
 abbrev of_sample : (written : List Instr) → Option Equivalence
 of_sample written = equivalence (Sample sampling) tt [] (sampled written ∷ [])
 
--- what is so of the claim by the drawn modules
+-- The claim of a sample has each property that the claim with the drawn modules has.
 by_drawn : (P : Equivalence → Type 0) (written : List Instr) → P (merged_equivalence (parts_of sample_merge.sources drawn) mode.Refuse (sampled written)) → IsClaimed (of_sample written) P
 by_drawn P written = subst (λ parts. P (merged_equivalence parts mode.Refuse (sampled written))) (sym they_are_drawn)
 
--- g0 is called with 5, and f0 with 3
+-- The trace of a call of `g0` with 5 and of `f0` with 3.
 abbrev sums : List Event
 sums = Linked ∷ number 1103527595 ∷ number 1103527593 ∷ []
 
@@ -369,7 +379,8 @@ sample_refuses_an_endless_output =
     by_drawn FirstRefuses (i.LocalGet 0 ∷ endless)
     (falls_short _ (number 1103527595) [] (record { moves = g0_of_5; steps = 12; named = refl; in_steps = (refl, refl); in_bounds = (refl, refl) }))
 
--- No function of a sample is endless. The output gives the sum of 5 whatever the number is, and so before the parts can, by more than four steps.
+-- No function of a sample is endless. The wrong output returns the sum for 5 whatever the number
+-- is, and so it returns more than four steps before the parts can.
 sample_refuses_a_constant : IsClaimed (of_sample (i.I32Const (pos 1103527595) ∷ [])) SecondRefuses
 unfolding out-Instr denote.Hole.Carrier.out wrapped bin_from bin_to bin_value all_exports all_entities merge_view
 sample_refuses_a_constant =

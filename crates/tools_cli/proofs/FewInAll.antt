@@ -1,4 +1,4 @@
--- What stands in the parts of a merge together.
+-- The numbers of entities of all parts of a merge together.
 use Rattle.base_lists.proofs.Common.{◌≡◌, ℕ, zero, suc, ◌*◌, ◌≤◌, ◌<◌, ◌^◌, List, [], ◌∷◌, length, cond, true, false, Bool, arith}
 use Rattle.std.proofs.Common.{length-append}
 use Rattle.wasm_tree_spec.specs.Prelude.{Space, Types, Functions, Tables, Memories, Globals, ElementSegments, DataSegments, limit, Module}
@@ -24,7 +24,7 @@ sites_few n (p ∷ ps) h =
     let whole = length-append (sites_in n (length p.«module».imports) 0) (sites_from (suc n) ps) in
     omega (arith, whole, sites_within n (length p.«module».imports) 0, h.0.imports, sites_few (suc n) ps h.1)
 
--- the most that a module defines of an index space
+-- The limit of the definitions of a module in an index space.
 abbrev most_defined : Space → ℕ
 most_defined Types = limit which.Types
 most_defined Functions = limit which.Functions
@@ -43,7 +43,7 @@ count_few Globals m h = h.globals
 count_few ElementSegments m h = h.elems
 count_few DataSegments m h = h.datas
 
--- and that is a million at most
+-- That limit is a million at most.
 most_few : (k : Space) → most_defined k ≤ limit which.Functions
 most_few Types = omega arith
 most_few Functions = omega arith

@@ -1,4 +1,4 @@
--- One item at most is the first that does not hold.
+-- At most one item of a list is the first that does not hold.
 use Rattle.base_lists.proofs.Common.{◌≡◌, ◌∙◌, sym, ap, ap₂, subst, ℕ, List, [], ◌∷◌, ◌++◌, length, Bool, true, false, refl}
 use Rattle.wasm_tree_spec.specs.Prelude.{Module}
 use Rattle.wasm_valid.specs.declared.kinds.ItemKind.{ItemKind}
@@ -15,7 +15,7 @@ heads x y xs ys e = cc
 tails : (x y : Item) (xs ys : List Item) → x ∷ xs ≡ y ∷ ys → xs ≡ ys
 tails x y xs ys e = cc
 
--- two splits of a list at the first invalid item are at one item
+-- Two splits of a list at its first invalid item are at the same item.
 split_once : (m : Module) (b b' : List Item) (x x' : Item) (a a' : List Item) → b ++ x ∷ a ≡ b' ++ x' ∷ a' → EachHolds m b → (Holds m x → ⊥) → EachHolds m b' → (Holds m x' → ⊥) → x ≡ x'
 split_once m [] [] x x' a a' e h fails h' fails' = heads x x' a a' e
 split_once m [] (y ∷ b') x x' a a' e h fails h' fails' = absurd (fails (subst (Holds m) (sym (heads x y a (b' ++ x' ∷ a') e)) h'.0))
@@ -38,7 +38,7 @@ each_at : (m : Module) (before after : List Item) (x : Item) → EachHolds m (be
 each_at m [] after x h = h.0
 each_at m (z ∷ before) after x h = each_at m before after x h.1
 
--- all items of an accepted module hold, the number of memories too where it is tested
+-- All items of an accepted module hold, also the number of memories where that is tested.
 pub all_hold : (many : Bool) (m : Module) → IsValid m → (many ≡ false → IsSingle m) → EachHolds m (items m many)
 all_hold true m valid single = valid
 all_hold false m valid single = each_insert m (span kind.Import 0 (length m.imports)) _ (item kind.Memories 0) valid (single refl)

@@ -11,7 +11,7 @@ use Rattle.wasm_tree_spec.specs.Prelude.{InputBytes}
 use Rattle.tools_cli.specs.Causes.{turns, turns_after}
 use Rattle.tools_cli.specs.declared.gather.Input.{Input}
 
--- what was read before, and then the rest
+-- The files that were read before, followed by the rest.
 abbrev pub add_all : List NamedFile → Gathered → Gathered
 add_all read (Whole rest) = Whole (read ++ rest)
 add_all read (Lacks name) = Lacks name
@@ -25,7 +25,8 @@ add_all-add_first read file (TooLong name) = refl
 some_is : {A : Type 0} (x y : A) → Some x ≡ Some y → x ≡ y
 some_is x y e = cc
 
--- a read of one byte more than may be left, and that gave no more than what may be left, gave all
+-- A read of one byte more than the room that is left gave the whole file if the result fits that
+-- room.
 read_whole : (o : Option Text) (left : ℕ) (bytes : Text) → option_map (take (left + 1)) o ≡ Some bytes → length bytes ≤ left → o ≡ Some bytes
 read_whole None left bytes e h = e
 read_whole (Some all) left bytes e h =
@@ -40,7 +41,7 @@ ltb_true m n h = grind (arith, nat_tests)
 ltb_false : (m n : ℕ) → n ≤ m → ltb m n ≡ false
 ltb_false m n h = grind (arith, nat_tests)
 
--- and one that gave more is of a file that is too long
+-- A file is too long if such a read gave more than the room.
 read_long : (o : Option Text) (name : Text) (left : ℕ) (bytes : Text) (rest : ℕ → Gathered) → option_map (take (left + 1)) o ≡ Some bytes → left < length bytes → add_file name left o rest ≡ TooLong name
 read_long None name left bytes rest e h = cc
 read_long (Some all) name left bytes rest e h =
@@ -49,18 +50,18 @@ read_long (Some all) name left bytes rest e h =
     let long : left < length all = omega arith in
     ap (λ b. cond b (TooLong name) (add_first (name, all) (rest (left - length all)))) (ltb_true left (length all) long)
 
--- a file that fits is the next
+-- A file that fits is gathered, and the others follow.
 add_file_fits : (name : Text) (left : ℕ) (bytes : Text) (rest : ℕ → Gathered) → length bytes ≤ left → add_file name left (Some bytes) rest ≡ add_first (name, bytes) (rest (left - length bytes))
 add_file_fits name left bytes rest h = ap (λ b. cond b (TooLong name) (add_first (name, bytes) (rest (left - length bytes)))) (ltb_false left (length bytes) h)
 
 turns_fits : (left : ℕ) (bytes : Text) (rest : ℕ → List Text) → length bytes ≤ left → turns_after left (Some bytes) rest ≡ rest (left - length bytes)
 turns_fits left bytes rest h = ap (λ b. cond b [] (rest (left - length bytes))) (ltb_false left (length bytes) h)
 
--- the names from a place on
+-- The names from a place on are the name there and the names behind it.
 pub names-drop : (names : List (Bor Text)) (i : ℕ) (d : Bor Text) → i < length names → names_of (drop i names) ≡ (get_or names i d).now ∷ names_of (drop (i + 1) names)
 names-drop names i d h = rw add-one (ap names_of (drop-cons names i d h))
 
--- one file more was read
+-- The gathered files are those read so far and the rest, also after one more file.
 pub one_file_more : (o : Option FileContents) (names : List (Bor Text)) (i : ℕ) (d : Bor Text) (most left : ℕ) (read : List NamedFile) (bytes : Text) → i < length names
     → IfSome o (λ held. gathered (names_of names) held most ≡ add_all read (gathered (names_of (drop i names)) held left))
     → IfSome o (λ held. first_bytes held (get_or names i d).now (left + 1) ≡ Some bytes)
@@ -74,7 +75,7 @@ one_file_more (Some held) names i d most left read bytes h before got fits =
     ∙ ap (add_all read) (add_file_fits (get_or names i d).now left bytes (gathered (names_of (drop (i + 1) names)) held) fits)
     ∙ add_all-add_first read ((get_or names i d).now, bytes) _
 
--- the next file is too long
+-- Gathering gives the next file as too long if it is.
 pub too_long : (o : Option FileContents) (names : List (Bor Text)) (i : ℕ) (d : Bor Text) (most left : ℕ) (read : List NamedFile) (bytes : Text) → i < length names
     → IfSome o (λ held. gathered (names_of names) held most ≡ add_all read (gathered (names_of (drop i names)) held left))
     → IfSome o (λ held. first_bytes held (get_or names i d).now (left + 1) ≡ Some bytes)
@@ -86,7 +87,7 @@ too_long (Some held) names i d most left read bytes h before got long =
     ∙ ap (λ ns. add_all read (gathered ns held left)) (names-drop names i d h)
     ∙ ap (add_all read) (read_long _ (get_or names i d).now left bytes (gathered (names_of (drop (i + 1) names)) held) got long)
 
--- and that is told
+-- The refusal tells the file that is too long.
 pub too_long_told : (o : Option FileContents) (names : List (Bor Text)) (i : ℕ) (d : Bor Text) (most left : ℕ) (read : List NamedFile) (bytes text : Text) → i < length names
     → IfSome o (λ held. gathered (names_of names) held most ≡ add_all read (gathered (names_of (drop i names)) held left))
     → IfSome o (λ held. first_bytes held (get_or names i d).now (left + 1) ≡ Some bytes)
@@ -96,7 +97,7 @@ too_long_told None names i d most left read bytes text h before got long is = tt
 too_long_told (Some held) names i d most left read bytes text h before got long is =
     ((get_or names i d).now, too_long (Some held) names i d most left read bytes h before got long, is)
 
--- all files were read
+-- The files that are read are all gathered files once each name was read.
 pub all_files : (o : Option FileContents) (names : List (Bor Text)) (i most left : ℕ) (read : List NamedFile) → length names ≤ i
     → IfSome o (λ held. gathered (names_of names) held most ≡ add_all read (gathered (names_of (drop i names)) held left))
     → IfSome o (λ held. gathered (names_of names) held most ≡ Whole read)
@@ -104,7 +105,8 @@ all_files None names i most left read h before = tt
 all_files (Some held) names i most left read h before =
     before ∙ ap (λ ns. add_all read (gathered (names_of ns) held left)) (drop_all i names h) ∙ ap Whole (append-nil read)
 
--- what comes from a place on comes in the whole
+-- The names whose turn comes when files are gathered from a place on have their turn in the whole
+-- gathering too.
 abbrev pub AreTurns : List (Bor Text) → ℕ → ℕ → ℕ → FileContents → Type 0
 AreTurns names i most left held = (name : Text) → Contains (turns (names_of (drop i names)) held left) name → Contains (turns (names_of names) held most) name
 
@@ -144,17 +146,17 @@ contains_name [] i d h = absurd (omega arith)
 contains_name (x ∷ names) zero d h = contains_first x.now (names_of names)
 contains_name (x ∷ names) (suc i) d h = contains_later x.now (names_of names) _ (contains_name names i d (omega arith))
 
--- what was read, with one file more
+-- The files that were read, extended by one file.
 pub same_read : (o : Option FileContents) (names : List (Bor Text)) (i most left : ℕ) (read : List Input) (input : Input)
     → IfSome o (λ held. gathered (names_of names) held most ≡ add_all (input_entries read ++ input_entry input ∷ []) (gathered (names_of (drop i names)) held left))
     → IfSome o (λ held. gathered (names_of names) held most ≡ add_all (input_entries (read ++ input ∷ [])) (gathered (names_of (drop i names)) held left))
 same_read o names i most left read input h = rw (map-append input_entry read (input ∷ [])) h
 
--- the names of what was read
+-- The names of the files that were read.
 abbrev pub read_names : List NamedFile → List Text
 read_names entries = map (λ e. e.0) entries
 
--- one name more
+-- The names of the files that were read, extended by one name.
 pub one_name_more : (names : List (Bor Text)) (i : ℕ) (d : Bor Text) (read : List Input) (input : Input) → i < length names
     → input.name.now ≡ (get_or names i d).now
     → names_of names ≡ read_names (input_entries read) ++ names_of (drop i names)
@@ -166,14 +168,14 @@ one_name_more names i d read input h same before =
     ∙ ap (λ l. l ++ names_of (drop (i + 1) names))
     (sym (ap read_names (map-append input_entry read (input ∷ [])) ∙ map-append (λ e. e.0) (input_entries read) (input_entry input ∷ [])))
 
--- all names
+-- The names of the files that were read are all names once each was read.
 pub all_names : (names : List (Bor Text)) (i : ℕ) (read : List Input) → length names ≤ i
     → names_of names ≡ read_names (input_entries read) ++ names_of (drop i names)
     → read_names (input_entries read) ≡ names_of names
 all_names names i read h before =
     sym (before ∙ ap (λ ns. read_names (input_entries read) ++ names_of ns) (drop_all i names h) ∙ append-nil _)
 
--- one file more in the total
+-- The total length of files is the sum over both lists.
 total-append : (xs ys : List NamedFile) → total (xs ++ ys) ≡ total xs + total ys
 total-append [] ys = let same : total ys ≡ 0 + total ys = omega arith in same
 total-append (x ∷ xs) ys = let more : total (xs ++ ys) ≡ total xs + total ys = total-append xs ys in omega arith

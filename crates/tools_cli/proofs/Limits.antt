@@ -10,7 +10,7 @@ use Rattle.wasm_read_spec.specs.Prelude.{typed, tree_of}
 use Rattle.wasm_read_spec.specs.Files.{section_form, small_form}
 use Rattle.tools_cli.specs.Prelude.{Text, IsReadAs, IsWithinLimits}
 
--- the lists of the sections
+-- No list of a section is above its limit.
 record FewParts (p : Parts) : Type 0 where
   pub types : length p.types ≤ limit Types
   pub imports : length p.imports ≤ limit Imports
@@ -21,7 +21,7 @@ record FewParts (p : Parts) : Type 0 where
   pub elems : length p.elems ≤ limit ElementSegments
   pub datas : length p.datas ≤ limit DataSegments
 
--- a section keeps them so
+-- A section keeps all lists within their limits.
 record Keeps (P : List ℕ → Parts → Type 0) (S : List ℕ → Type 0) : Type 0 where
   keep : (c : List ℕ) (q : Parts) → P c q → S c → FewParts q
 
@@ -66,7 +66,7 @@ contents_keep many p (t ∷ ss) q s h k = contents_keep many h.0 ss q ((section_
 none_yet : FewParts nothing
 none_yet = record { types = omega arith; imports = omega arith; func_types = omega arith; tables = omega arith; mems = omega arith; globals = omega arith; elems = omega arith; datas = omega arith }
 
--- no more functions are put together than there are types of them
+-- At most as many functions are put together as they have types.
 few_typed : (ts : List ℕ) (fs : List Func) (most : ℕ) → length ts ≤ most → length (typed ts fs) ≤ most
 few_typed [] fs most h = omega arith
 few_typed (t ∷ ts) [] most h = omega arith

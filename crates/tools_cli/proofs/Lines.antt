@@ -1,4 +1,4 @@
--- What is picked from the arguments of a command, and the task of these.
+-- The arguments that are picked for a command, and the task of these.
 use Rattle.base_lists.proofs.Common.{codes, ◌≡◌, ◌∙◌, refl, sym, ap, ◌<◌, arith, map, length, Bool, true, false, cond, List, [], ◌∷◌, Option, Some, None, option_map, option_and_then, Bor}
 use Rattle.std.specs.Prelude.{unwrap_or, bytes_eq}
 use Rattle.tools_cli_words.specs.Arguments.{Text, Arguments, said_together}
@@ -9,7 +9,7 @@ use Rattle.tools_cli.specs.Prelude.{Source, are_apart, source_values, source_nam
 use Rattle.tools_cli.specs.CommandLine.{some_apart, merge_of, metadce_of, split_of, ctor_eval_of, sample_of, task_of, tool_named, tool_in, said_to_tool, task_of_arguments}
 use Rattle.tools_cli.specs.declared.merge.Source as code
 
--- a text, or another in its place
+-- An optional text, or a default in its place.
 pub one_or : (o : Option (Bor Text)) (other : Bor Text) → (unwrap_or o other).now ≡ unwrap_or (option_map (λ t. t.now) o) other.now
 one_or None other = refl
 one_or (Some x) other = refl
@@ -20,7 +20,7 @@ pub names_once : (xs : List code.Source) → map (λ (s : Source). s.name) (sour
 names_once [] = refl
 names_once (x ∷ xs) = ap (λ (l : List Text). x.name.now ∷ l) (names_once xs)
 
--- sources that are at least one, and whose names are apart or not
+-- A list of at least one source is accepted exactly if the names of the sources are distinct.
 pub sources_apart : (xs : List code.Source) (o : Option (List Source)) → Some (source_values xs) ≡ o → 0 < length xs → are_apart (source_names xs) ≡ true → Some (source_values xs) ≡ option_and_then some_apart o
 sources_apart [] o e some apart = absurd (omega arith)
 sources_apart (x ∷ xs) o e some apart =

@@ -14,7 +14,7 @@ use Rattle.tools_cli.proofs.Limits.{read_within}
 
 -- ---- stops ----
 
--- a stop with a text of which one thing is so, where another is so of such texts
+-- A property of the text of a stop implies a weaker one.
 pub stops_weaker : (P Q : Text → Type 0) → ((text : Text) → P text → Q text) → (s : Stop) → StopsWith P s → StopsWith Q s
 stops_weaker P Q f (stop.Refused refusal) h = f (refusal_text refusal) h
 stops_weaker P Q f stop.NoMemory h = tt
@@ -28,7 +28,8 @@ stops_weaker P Q f stop.CannotPrint h = absurd h
 entries_at : (inputs : List Input) (i : ℕ) (x : Input) → i < length inputs → x ≡ get_or inputs i x → input_entries (drop i inputs) ≡ input_entry x ∷ input_entries (drop (i + 1) inputs)
 entries_at inputs i x lt is = rw add-one (ap input_entries (drop-cons inputs i x lt) ∙ ap (λ y. input_entry y ∷ input_entries (drop (suc i) inputs)) (sym is))
 
--- what is known of the first files: where the rest loads, all load; where one of the rest fails, one of all does
+-- The invariant of loading: all files load if the rest loads, and one of all fails if one of the
+-- rest fails.
 abbrev pub LoadSoFar : List Input → ℕ → List Module → Type 0
 LoadSoFar inputs i trees = (rest : List Module) → AllLoad false (input_entries (drop i inputs)) rest → AllLoad false (input_entries inputs) (trees ++ rest)
 
@@ -46,13 +47,13 @@ fails_here inputs i x lt is later text h =
     let P : List NamedFile → Type 0 = λ l. OneFails false l text in
     later text (subst P (sym (entries_at inputs i x lt is)) (inl h))
 
--- each file is within what all have together
+-- Each file is within the limit of all files together.
 pub short_input : (inputs : List Input) (i : ℕ) (x : Input) → i < length inputs → x ≡ get_or inputs i x → total (input_entries inputs) ≤ most_input → length x.bytes.items < 2 ^ 32
 short_input [] i x lt is room = absurd (omega arith)
 short_input (y ∷ ys) zero x lt is room = let same : length x.bytes.items ≡ length y.bytes.items = ap (λ (j : Input). length j.bytes.items) is in omega arith
 short_input (y ∷ ys) (suc i) x lt is room = short_input ys i x (omega arith) is (omega arith)
 
--- a file that is not read is refused with the text of its first fault
+-- A file that cannot be read is refused with the text of its first fault.
 pub faulty_from : (file bytes seen text : Text) (fault : ReadFault) → seen ≡ bytes → (fault ≡ NoMemory) ⊎ (read_fault seen false ≡ Some fault) → fault_text file fault ≡ Some text → LoadsFile false file bytes (Err text)
 faulty_from file bytes seen text fault e (inl none) told = let no_text : fault_text file NoMemory ≡ Some text = ap (fault_text file) (sym none) ∙ told in cc
 faulty_from file bytes seen text fault e (inr found) told = faulty fault text (ap (λ b. read_fault b false) (sym e) ∙ found) told

@@ -1,5 +1,6 @@
--- That what the tasks of FaithfulRows.antt write is made of the modules that they read, computed: whatever bytes encode these modules, and for a split whatever bytes that have
--- no name section.
+-- The outputs of the tasks in FaithfulRows.antt are made of the modules that these read, computed:
+-- for any bytes that encode these modules, and for a split for any such bytes without a name
+-- section.
 use Rattle.base_lists.proofs.Common.{◌≡◌, refl, sym, ap, subst, ◌∙◌, zero, suc, List, [], ◌∷◌, length, true, false, Some, None, Ok, inr, true≢false, rules, arith, codes, Contains}
 use Rattle.std.specs.Fmt.{digits}
 use Rattle.std.specs.Str.{is_utf8, chars}
@@ -46,7 +47,7 @@ both_are_made first second = (refl, rw they_are_both refl)
 
 -- ---- metadce ----
 
--- one node, which is a root and denotes the export f
+-- The graph has one node, which is a root and denotes the export `f`.
 abbrev graph_text : Text
 graph_text = codes "[{\"name\":\"n\",\"root\":true,\"export\":\"f\"}]"
 
@@ -75,7 +76,7 @@ are_met =
 abbrev IsMarked : Point → Type 0
 IsMarked p = marked reached p ≡ true
 
--- what is marked is met, and leads to what is marked
+-- A marked point is met and leads only to marked points.
 are_right : (p : Point) → IsMarked p → IsMet p × Every IsMarked (edges graph (with asking) p)
 are_right (point.Node zero) h = (are_met.0, (refl, tt))
 are_right (point.Export zero) h = (are_met.1, (refl, tt))

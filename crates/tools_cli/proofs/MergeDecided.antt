@@ -1,4 +1,4 @@
--- What merging the modules of a task decides.
+-- The decision of merging the modules of a task.
 use Rattle.base_lists.proofs.Common.{◌≡◌, ◌∙◌, sym, refl, ap, subst, ◌⊎◌, inl, inr, None, Some, Err, map, ℕ, zero, suc, ◌+◌, ◌<◌, List, [], ◌∷◌, ◌++◌, append-nil, length, slice_get, slice_index_or, arith, Bool, false, Result, Ok, IfOk, IfErr}
 use Rattle.tools_cli.specs.Prelude.{Text, Source, MergeTask, Merge, source_files, many_of, Decision, Refuses, Makes, Merges, not_linked, not_joined, merged, AreMerged, parts_of, link_text, StopsWith, source_values}
 use Rattle.tools_cli.specs.Texts.{join_text}
@@ -16,12 +16,12 @@ use Rattle.tools_cli.proofs.Loading.{stops_weaker}
 use Rattle.tools_cli.specs.Sources.{files_of}
 use Rattle.tools_cli.specs.declared.merge.Source as code
 
--- the part that a fault names is there
+-- The part that a fault names exists.
 pub names_one : LinkFaultsNameParts → (parts : List Part) (many : Bool) (fault : LinkFault) (n : ℕ) → length parts ≡ n → (fault ≡ link.NoMemory) ⊎ (link_fault parts many ≡ Some fault) → NamesPart n fault
 names_one law parts many fault n same (inl none) = subst (NamesPart n) (sym none) tt
 names_one law parts many fault n same (inr found) = subst (λ k. NamesPart k fault) same (law parts many fault found)
 
--- a refusal of parts that do not link or are not joined
+-- Parts that do not link or cannot be joined give a refusal.
 pub link_fails : (merge : MergeTask) (parts : List Part) (fault : LinkFault) (text : Text) → (fault ≡ link.NoMemory) ⊎ (link_fault parts (many_of (Merge merge)) ≡ Some fault) → link_text (source_files merge) fault ≡ Some text → MergeFails merge parts text
 link_fails merge parts fault text (inr found) says = inl (fault, found, says)
 link_fails merge parts fault text (inl none) says = let no_text : None ≡ Some text = ap (link_text (source_files merge)) (sym none) ∙ says in absurd (cc)
@@ -42,7 +42,7 @@ merge_made merge parts trees tree decision named is made =
     let Q : List Part → Type 0 = λ ps. AreMerged (many_of (Merge merge)) ps merge.mode tree in
     subst P (sym made) (merged tree (subst Q named is))
 
--- what is merged under the names of the sources, and why it is not
+-- Parts are merged, or refused, under the names of their sources.
 pub merged_named : {E : Type 0} (r : Result Module E) (mode : Mode) (parts named : List Part) → parts ≡ named → IfOk r (λ tree. AreMerged false parts mode tree) → IfOk r (λ tree. AreMerged false named mode tree)
 merged_named (Ok tree) mode parts named same h = let P : List Part → Type 0 = λ ps. AreMerged false ps mode tree in subst P same h
 merged_named (Err x) mode parts named same h = tt
@@ -53,7 +53,7 @@ stops_named (Err stop) merge parts trees named h = stops_weaker (MergeFails merg
 
 -- ---- the parts and their sources ----
 
--- the number of parts
+-- The number of parts is the number of sources.
 pub length_once : (xs : List code.Source) → length (source_values xs) ≡ length xs
 length_once [] = refl
 length_once (x ∷ xs) = ap suc (length_once xs)

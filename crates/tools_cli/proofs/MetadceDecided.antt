@@ -1,4 +1,4 @@
--- What a metadce decides: from its parts, that it decides something, and that it is one.
+-- The decision of a metadce: how it follows from its parts, that it exists, and that it is unique.
 use Rattle.base_lists.proofs.Common.{◌↔◌, IfOk, true, ◌≡◌, ◌∙◌, ◌⊎◌, inl, inr, refl, sym, ap, ap₂, subst, ℕ, List, [], ◌∷◌, length, get_or, Option, Some, None, Result, Ok, Err, arith, filter_map}
 use Rattle.dce_graph.specs.declared.point.Point.{Point}
 use Rattle.dce_graph.specs.Prelude.{AreExact, flags, marked, IsReached, point_count, graph_result, if_text, misshapen, entry_of, first_repeated, first_unknown, names_of, place_of_name, reached_names, fault_of}
@@ -42,7 +42,7 @@ graph_fails file text says (graph.GraphShape entry) h e = (graph.GraphShape entr
 graph_fails file text says (graph.NodeTwice name) h e = (graph.NodeTwice name, fault_is (graph_result text) (graph.NodeTwice name) h, e)
 graph_fails file text says (graph.UnknownNode name) h e = (graph.UnknownNode name, fault_is (graph_result text) (graph.UnknownNode name) h, e)
 
--- marks that are set where a path leads, one for each point
+-- Marks are exact if they are set exactly where a path leads and there is one for each point.
 pub exact_marks : {E : Type 0} (r : Result Reached E) (g : Graph) (m : Module) → IfOk r (λ marks. (p : Point) → (marked marks p ≡ true) ↔ IsReached g m p) → IfOk r (λ marks. (p : Point) → length (flags marks p) ≡ point_count g m p) → IfOk r (AreExact g m)
 exact_marks (Ok marks) g m exactly one_each = record { exactly = exactly; one_each = one_each }
 exact_marks (Err x) g m exactly one_each = tt
@@ -165,7 +165,7 @@ no_other text g fault e f = absurd (let both : ◌≡◌ {A = Result Graph Graph
 one_text : (o : Option Text) (says other : Text) → o ≡ Some says → o ≡ Some other → says ≡ other
 one_text o says other e f = let both : Some says ≡ Some other = sym e ∙ f in cc
 
--- exact marks of one graph and module keep one thing
+-- All exact marks of one graph and module give the same sweep.
 one_sweep : ExactMarksAreOne → (text : Text) (tree : Module) (g h : Graph) (marks others : Reached) (r q : Result Module SweepFault) → GivesMarks text tree g marks → GivesMarks text tree h others → Sweeps (marks_of marks) tree r → Sweeps (marks_of others) tree q → r ≡ q
 one_sweep one text tree g h marks others r q is be e f =
     let same = one_graph text g h is.read be.read in

@@ -6,7 +6,7 @@ use Rattle.std.proofs.lemmas.Str.Parse.{numerals_by_value, tells_all_ascii_digit
 use Rattle.tools_cli_words.specs.Arguments.{Text}
 use Rattle.tools_cli.specs.Numbers.{is_number, number_within}
 
--- a number where a test says that it is in the range
+-- The number if it is in the range.
 abbrev pub within : (least most n : ℕ) → Option ℕ
 within least most n = cond (not (ltb n least) && not (ltb most n)) (Some n) None
 
@@ -18,7 +18,7 @@ above least most n lt = let test : ltb most n ≡ true = grind (arith, nat_tests
     by false true e = refl
     by false false e = absurd (cc)
 
--- what number_within gives of a text that is a number
+-- The result of `number_within` for a text that is a number.
 number_is : (least most : ℕ) (text : Text) → is_number text ≡ true → number_within least most text ≡ within least most (digits_value 10 text)
 number_is least most text e = rw e refl
 
@@ -38,7 +38,7 @@ not_small n never = by (ltb n (2 ^ 32)) refl
     by true e = let lt : n < 2 ^ 32 = grind (arith, nat_tests) in absurd (never lt)
     by false e = grind (arith, nat_tests)
 
--- what a u32 is read as from a text that is a number
+-- A text of a number that is not read as a u32 has no number in the range.
 pub not_parsed : {E : Type 0} (text : Text) → is_number text ≡ true → (x : E) → ParsesUnsigned 32 10 text (Err x) → (least most : ℕ) → most < 2 ^ 32 → number_within least most text ≡ None
 not_parsed text e x h least most few =
     let (digits, some) = parts text e in
@@ -47,7 +47,7 @@ not_parsed text e x h least most few =
     let large = not_small (digits_value 10 text) never_small in
     number_is least most text e ∙ above least most (digits_value 10 text) (omega (arith, few, large))
 
--- a number that is read is in the range
+-- A number that is read is in the range.
 pub in_range : (least most : ℕ) (text : Text) → IfSome (number_within least most text) (λ n. (least ≤ n) × (n ≤ most))
 in_range least most text = by (is_number text) (ltb (digits_value 10 text) least) (ltb most (digits_value 10 text)) refl refl
   where

@@ -7,7 +7,7 @@ use Rattle.tools_cli.specs.Prelude.{Text, NamedFile, contents_of, input_entries}
 use Rattle.tools_cli.specs.Faithful.{HoldBytesAt}
 use Rattle.tools_cli.specs.declared.gather.Input.{Input}
 
--- the first contents are those of a file that was read
+-- The first contents are those of a file that was read, so they are bytes.
 pub first_read : (files : FileContents) (names : List Text) (es : List NamedFile) → map (get files) names ≡ map (λ (e : NamedFile). Some e.1) es → HoldBytesAt names files → (bytes : Text) (more : List Text) → contents_of es ≡ bytes ∷ more → IsBytes bytes
 first_read files names [] held h bytes more e = absurd (cc)
 first_read files [] (x ∷ es) held h bytes more e = absurd (cc)
@@ -16,7 +16,7 @@ first_read files (name ∷ names) (x ∷ es) held h bytes more e =
     let same : x.1 ≡ bytes = cc in
     subst IsBytes same (h name x.1 (0, omega arith, refl) there)
 
--- so many contents that are bytes are those of the files
+-- The files hold bytes if the contents that were read of them are bytes.
 pub all_read_are : (files : FileContents) (names : List Text) (es : List NamedFile) → map (get files) names ≡ map (λ (e : NamedFile). Some e.1) es → Every (λ (e : NamedFile). IsBytes e.1) es → HoldBytesAt names files
 all_read_are files [] es held h name bytes (k, lt, is) there = absurd (omega (arith, lt))
 all_read_are files (n ∷ names) [] held h name bytes (k, lt, is) there = absurd (cc)
@@ -29,7 +29,7 @@ all_read_are files (n ∷ names) (x ∷ es) held h name bytes (suc k, lt, is) th
     let rest : map (get files) names ≡ map (λ (e : NamedFile). Some e.1) es = cc in
     all_read_are files names es rest h.1 name bytes (k, omega (arith, lt), is) there
 
--- one input more
+-- The inputs are bytes with one more input that is bytes.
 pub one_more_read : (xs : List Input) (x : Input) → Every (λ (e : NamedFile). IsBytes e.1) (input_entries xs) → IsBytes x.bytes.items → Every (λ (e : NamedFile). IsBytes e.1) (input_entries (xs ++ x ∷ []))
 one_more_read [] x h k = (k, tt)
 one_more_read (y ∷ ys) x h k = (h.0, one_more_read ys x h.1 k)

@@ -1,4 +1,4 @@
--- From the parts of a run to its whole.
+-- The contract of a whole run, from those of its parts.
 use Rattle.base_lists.proofs.Common.{◌≡◌, ◌∙◌, arith, sym, refl, ap, subst, ℕ, ◌≤◌, List, [], ◌∷◌, ◌++◌, length, map, drop, Option, Some, None, IfSome, Contains, OnOk, Result, Ok, Err, string_bytes, inl, inr, ◌⊎◌, get, map_twice}
 use Rattle.tool_io.specs.FilesAndSinks.{FileContents, Becomes, AppendsPrefix, Rose}
 use Rattle.tools_cli.proofs.Changes.{becomes_itself, becomes_weaker, becomes_same}
@@ -26,17 +26,17 @@ use Rattle.tools_cli.proofs.Faithful.{gathered_held}
 use Rattle.tools_cli.proofs.Deciding.{text_contents}
 use Rattle.tools_cli.proofs.Pieces.{prefix_none}
 
--- a task's job from the contents of its inputs
+-- The job of a task, from the contents of its inputs.
 pub decided_at : (held : Option FileContents) (t : Task) (inputs : List NamedFile) (job : Job) → refused_before t ≡ None → IfSome held (λ a. gathered (inputs_of t) a most_input ≡ Whole inputs) → InputsJob t inputs job → IfSome held (λ a. TaskJob t a job)
 decided_at None t inputs job begun g d = tt
 decided_at (Some a) t inputs job begun g d = all_read inputs job begun g d
 
--- and from a file that is too long
+-- The job of a task with a file that is too long.
 too_long_at : (held : Option FileContents) (t : Task) (text : Text) → refused_before t ≡ None → IfSome held (λ a. (name : Text) × (gathered (inputs_of t) a most_input ≡ TooLong name) × (text ≡ over_limit name InputBytes)) → IfSome held (λ a. TaskJob t a (Refused text))
 too_long_at None t text begun h = tt
 too_long_at (Some a) t text begun (name, g, e) = let P : Text → Type 0 = λ x. TaskJob t a (Refused x) in subst P (sym e) (too_long name begun g)
 
--- and from a task that is refused at once
+-- The job of a task that is refused at once.
 pub not_begun_at : (held : Option FileContents) (t : Task) (text : Text) → refused_before t ≡ Some text → IfSome held (λ a. TaskJob t a (Refused text))
 not_begun_at None t text e = tt
 not_begun_at (Some a) t text e = not_begun text e
@@ -58,7 +58,7 @@ preparing_from_gathering held before now t (stop.Usage line) begun h = absurd h
 preparing_from_gathering held before now t (stop.CannotWrite name) begun h = absurd h
 preparing_from_gathering held before now t stop.CannotPrint begun h = absurd h
 
--- the other texts that a task reads are those that it has read
+-- The other texts that a task reads are the contents of the files behind its modules.
 texts_behind_modules : (files : FileContents) (modules texts : List Text) (inputs : List NamedFile) → map (get files) (modules ++ texts) ≡ map (λ (e : NamedFile). Some e.1) inputs → map (get files) texts ≡ map (λ (e : NamedFile). Some e.1) (drop (length modules) inputs)
 texts_behind_modules files [] texts inputs e = e
 texts_behind_modules files (name ∷ modules) texts [] e = absurd (cc)
@@ -70,7 +70,7 @@ texts_held (Some a) t inputs h =
     texts_behind_modules a (modules_of t) (texts_of t) inputs (gathered_held a (inputs_of t) most_input inputs h)
     ∙ sym (map_twice Some (λ (e : NamedFile). e.1) (drop (length (modules_of t)) inputs))
 
--- the job of the words from the job of their task
+-- The job of the words is that of their task.
 job_at : (words : List Text) (t : Task) (held : Option FileContents) (job : Job) → task_of words ≡ Some t → IfSome held (λ a. TaskJob t a job) → IfSome held (λ a. HasJob words a job)
 job_at words t None job e h = tt
 job_at words t (Some a) job e h = asked t job e h
@@ -114,7 +114,7 @@ done_at : (words : List Text) (t : Task) (held new : Option FileContents) (write
 done_at words t None new writes lines e h all = tt
 done_at words t (Some a) new writes lines e h all = (writes, lines, asked t (Done writes lines) e h, all_is writes a new all)
 
--- a stop of the writes or of the lines is one of the work
+-- A stop of the writes or of the printed lines is a stop of the work.
 pub finish_stops : (words : List Text) (t : Task) (old new : HostState) (mid : Text → ℕ) (writes : List NamedFile) (lines : Text) (s : Stop) → task_of words ≡ Some t
     → ((name : Text) → old.writes name ≤ mid name)
     → IfSome old.files (λ a. TaskJob t a (Done writes lines))
@@ -137,7 +137,7 @@ finish_stops words t old new mid writes lines (stop.CannotRead name) e later don
 same_at : {A : Type 0} (x y : Option A) → y ≡ x → IsSame x y
 same_at x y e = becomes_same x y (λ a b. b ≡ a) e (λ a. refl)
 
--- a stop before anything is written is one of the work
+-- A stop before anything is written is a stop of the work.
 pub prepare_stops : (words : List Text) (t : Task) (old new : HostState) (s : Stop) → task_of words ≡ Some t → new.files ≡ old.files → new.out ≡ old.out
     → StopsPreparing old.files old.reads new.reads t s → StopsWork words old new s
 prepare_stops words t old new (stop.Refused refusal) e files out h = (job_at words t old.files (Refused (refusal_text refusal)) e h, same_at _ _ files, same_at _ _ out)
@@ -147,7 +147,7 @@ prepare_stops words t old new (stop.Usage line) e files out h = absurd h
 prepare_stops words t old new (stop.CannotWrite name) e files out h = absurd h
 prepare_stops words t old new stop.CannotPrint e files out h = absurd h
 
--- what is told of a refusal is one of the lines
+-- The text of a refusal is a line.
 refusal_line : (refusal : Refusal) → IsLine (stop_line (refusal_text refusal))
 refusal_line (refusal.NotModule file) = fault_line file.now _ fault.NotModule refl
 refusal_line (refusal.Malformed file section) = fault_line file.now _ (fault.Malformed section.number) refl
@@ -175,7 +175,7 @@ refusal_line (refusal.NamespaceTaken file import) = split_line file.now _ (split
 refusal_line (refusal.PrefixTaken name) = split_line [] _ (split.PrefixTaken name) refl
 refusal_line (refusal.NoSuchExport name) = eval_line _ (eval.NoSuchExport name) refl
 
--- what is told of a stop is one of the lines
+-- The text of a stop is a line.
 line_is : (words : List Text) (old new : HostState) (s : Stop) → StopsWork words old new s → IsLine (line_of s)
 line_is words old new (stop.Usage line) h = subst IsLine (sym h.1) (usage words)
 line_is words old new (stop.Refused refusal) h = refusal_line refusal
@@ -190,7 +190,7 @@ says_nothing x = becomes_itself x Says (λ a. (stop_line no_memory, no_memory_li
 pub says_a_line : (words : List Text) (old new : HostState) (s : Stop) (x y : Option Text) → StopsWork words old new s → Becomes x y (AppendsPrefix (line_of s)) → Becomes x y Says
 says_a_line words old new s x y h p = becomes_weaker x y (AppendsPrefix (line_of s)) Says p (λ a b q. (line_of s, line_is words old new s h, q))
 
--- what is told of a stop that is a fault of the outside has its cause
+-- A stop that reports a fault of the outside has its cause there.
 pub outside_cause : (words : List Text) (old new : HostState) (s : Stop) (err err' : Option Text) (before now : ℕ) (result : Status)
     → StopsWork words old new s → Reports s err err' before now result → result ≡ status.Outside → HasOutsideCause words old new err err' before now
 outside_cause words old new s err err' before now result h (inr (inl p)) is = inl p.1
@@ -210,7 +210,8 @@ refused_status : (words : List Text) (held : Option FileContents) (text : Text) 
 refused_status words None text result job is = tt
 refused_status words (Some a) text result job is = (Refused text, job, is)
 
--- a stop comes with a count that rose, with want of memory, or with the job's status
+-- A stop comes with a risen count of failures, with a lack of memory, or with the status of the
+-- job.
 pub complete_at_stop : (words : List Text) (old new : HostState) (s : Stop) (err err' : Option Text) (before now : ℕ) (result : Status)
     → StopsWork words old new s → Reports s err err' before now result
     → SomeRose old new before now ⊎ ((result ≡ status.NoMemory) ⊎ IfSome old.files (λ a. HasStatus words a result))
@@ -223,7 +224,8 @@ complete_at_stop words old new (stop.Usage line) err err' before now result h (i
 complete_at_stop words old new (stop.Refused refusal) err err' before now result h (inl p) = inr (inr (refused_status words old.files _ result h.0 p.0))
 complete_at_stop words old new stop.NoMemory err err' before now result h (inl p) = inr (inl p.0)
 
--- a stop because of the words ends as usage, where no put fails
+-- A stop because of the words ends with the status of usage if no write to the standard error
+-- fails.
 pub usage_at_stop : (s : Stop) (err err' : Option Text) (before now : ℕ) (result : Status) → IsUsage (Err s) → Reports s err err' before now result
     → Rose before now ⊎ ((result ≡ status.NoMemory) ⊎ (result ≡ status.Usage))
 usage_at_stop s err err' before now result h (inr (inl p)) = inl p.1
@@ -235,11 +237,11 @@ usage_at_stop (stop.CannotWrite name) err err' before now result h (inl p) = abs
 usage_at_stop stop.CannotPrint err err' before now result h (inl p) = absurd h
 usage_at_stop stop.NoMemory err err' before now result h (inl p) = inr (inl p.0)
 
--- a task of words that print nothing has no lines
+-- A task whose words print nothing has no lines.
 pub has_no_lines : (words : List Text) (t : Task) (lines : Text) → task_of words ≡ Some t → PrintsAsAllowed t lines → PrintsNothing words → lines ≡ []
 has_no_lines words t lines e allowed nothing = allowed (nothing t e)
 
--- what is told of a stop that is no task is the usage line
+-- The line of a stop because of words that are no task is the usage line.
 pub usage_told : (words : List Text) (old new : HostState) (s : Stop) (err err' : Option Text) (before now : ℕ) (result : Status)
     → StopsWork words old new s → Reports s err err' before now result → result ≡ status.Usage → (task_of words ≡ None) × Gains (usage_line words) err err' × IsSame old.files new.files × IsSame old.out new.out
 usage_told words old new s err err' before now result h (inr (inl p)) is = let e = p.0 in cc
@@ -251,7 +253,7 @@ usage_told words old new (stop.CannotWrite name) err err' before now result h (i
 usage_told words old new stop.CannotPrint err err' before now result h (inl p) is = let e = p.0 in cc
 usage_told words old new stop.NoMemory err err' before now result h (inl p) is = let e = p.0 in cc
 
--- no stop ends as done
+-- No stop ends with the status of done.
 pub no_stop_is_done : (s : Stop) (err err' : Option Text) (before now : ℕ) (result : Status) → Reports s err err' before now result → result ≡ status.Done → ⊥
 no_stop_is_done s err err' before now result (inr (inl p)) is = let e = p.0 in cc
 no_stop_is_done s err err' before now result (inr (inr e)) is = cc
@@ -266,7 +268,7 @@ refused_at : (words : List Text) (err err' : Option Text) (files : Option FileCo
 refused_at words err err' None text job gains = tt
 refused_at words err err' (Some a) text job gains = (text, job, gains)
 
--- what is told of a stop that is a refusal is its line
+-- The line of a stop that is a refusal is that of the refusal.
 pub refusal_told : (words : List Text) (old new : HostState) (s : Stop) (err err' : Option Text) (before now : ℕ) (result : Status)
     → StopsWork words old new s → Reports s err err' before now result → result ≡ status.Refused → IfSome old.files (λ a. EndsRefused words a err err') × IsSame old.files new.files × IsSame old.out new.out
 refusal_told words old new s err err' before now result h (inr (inl p)) is = let e = p.0 in cc

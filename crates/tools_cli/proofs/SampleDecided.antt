@@ -1,4 +1,4 @@
--- What a sample decides: from its parts, that it decides something, and that it is one.
+-- The decision of a sample: how it follows from its parts, that it exists, and that it is unique.
 use Rattle.base_lists.proofs.Common.{◌≡◌, ◌∙◌, refl, sym, ap, subst, false, map, List, [], ◌∷◌, length, Option, Some, None, option_map, arith, cons_option}
 use Rattle.wasm_tree_spec.specs.Prelude.{Module}
 use Rattle.tools_cli.specs.Prelude.{Text, MergeTask, SampleTask, Sample, Output, Decision, Refuses, Makes, parts_of, AreMerged, Merges, not_linked, not_joined, merged, Decides, Samples, not_merged, sampled, sample_merge, sample_modules, sample_parts}

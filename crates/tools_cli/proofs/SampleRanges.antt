@@ -1,4 +1,5 @@
--- The modules of a sample: how many of each thing they have, and that their numbers are in the ranges of their types.
+-- The modules of a sample: how many entities of each kind they have, and that their numbers are in
+-- the ranges of their types.
 use Rattle.base_lists.proofs.Common.{◌≡◌, ◌∙◌, refl, ap, subst, ℕ, zero, suc, ◌+◌, ◌*◌, ◌%◌, ◌^◌, ◌<◌, ◌≤◌, [], ◌∷◌, length, map, true, arith, decimal, IsUtf8, ◌&&◌, Bool, nat_lt, pos, nat_tests, length-map, IsUtf8-from_ascii, IsAscii-cons, IsAscii-nil, length-numbers}
 use Rattle.std.proofs.lemmas.Fmt.{IsAscii-decimal}
 use Rattle.base_lists.specs.Every.{Every}

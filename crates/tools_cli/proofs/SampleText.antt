@@ -1,8 +1,8 @@
--- The lines of a sample, added one after another.
+-- The lines of a sample, appended one by one.
 use Rattle.std.proofs.Common.{◌≡◌, ◌∙◌, ap, ℕ, [], ◌++◌, append_assoc, decimal}
 use Rattle.tools_cli.specs.CommandLine.{Text}
 
--- a text that was added to, and a number whose value is known
+-- The new text is the old one with a text and the decimal digits of a number appended.
 abbrev pub IsAdded : (old new text : Text) (number : ℕ) → Type 0
 IsAdded old new text number = new ≡ old ++ (text ++ decimal number)
 

@@ -1,4 +1,4 @@
--- What a split decides: from its parts, that it decides something, and that it is one.
+-- The decision of a split: how it follows from its parts, that it exists, and that it is unique.
 use Rattle.base_lists.proofs.Common.{◌↔◌, ◌≡◌, ◌∙◌, ◌⊎◌, inl, inr, refl, sym, ap, ap₂, subst, ℕ, List, [], ◌∷◌, length, Option, Some, None, option_map, arith, option_or}
 use Rattle.wasm_bytes.specs.Prelude.{IsBytes}
 use Rattle.wasm_tree_spec.specs.Prelude.{Which, Module}
@@ -56,7 +56,7 @@ of_one split (tree ∷ other ∷ trees) contents decision h = absurd h
 
 -- ---- it decides something ----
 
--- the names of a file's functions are those that are read
+-- The names of the functions of a file are those that are read from it.
 abbrev pub NamesAreRead : Type 0
 NamesAreRead = (bytes : List ℕ) (names : List FuncName) → IsBytes bytes → AreFunctionNames bytes names ↔ (names ≡ name_list bytes)
 

@@ -1,4 +1,5 @@
--- The names of the nodes that have no mark: they ascend, they are all of them, and no other list is so.
+-- The names of the nodes without a mark: they ascend, they are complete, and no other list has
+-- these properties.
 use Rattle.base_lists.proofs.Common.{◌≡◌, ◌∙◌, ◌⊎◌, inl, inr, refl, sym, ap, ap₂, subst, ℕ, zero, suc, ◌+◌, ◌<◌, List, [], ◌∷◌, length, drop, drop-cons, get_or, Bool, true, false, cond, Some, add-one, arith, slice_get, Contains, nat_cmp, slice_cmp}
 use Rattle.std.proofs.Common.{Bor}
 use Rattle.std.specs.Ordering.{match_ordering, ordering_reverse}
@@ -193,7 +194,7 @@ names_with (x ∷ ks) k = by (slice_cmp nat_cmp k.now x.now) (names_with ks k)
     by Equal rest = refl
     by Greater rest = ap (λ (l : List Text). x.now ∷ l) rest
 
--- one node more
+-- The unmarked names of the first nodes, extended by one node.
 pub one_node_more : (names : List Text) (nodes : List Node) (marks : List Bool) (i : ℕ) (d : Node) → i < length nodes → i < length marks
     → unmarked_from names (drop i nodes) (drop i marks) ≡ unmarked_from (cond (get_or marks i false) names (with_name names (get_or nodes i d).name)) (drop (i + 1) nodes) (drop (i + 1) marks)
 one_node_more names nodes marks i d lt long =

@@ -1,4 +1,5 @@
--- What is so of each task: its names are UTF-8 where the words that ask for it are, no two of its outputs have one name, and a sample has functions, not too many.
+-- The properties of each task: its names are UTF-8 if the words that ask for it are, no two of its
+-- outputs have the same name, and a sample has at least one function and not too many.
 use Rattle.base_lists.proofs.Common.{◌≡◌, ◌∙◌, refl, ap, subst, Bool, true, false, cond, ℕ, suc, ◌+◌, ◌<◌, ◌≤◌, List, [], ◌∷◌, ◌++◌, drop, length, get_or, add-one, Option, Some, None, IfSome, option_map, option_and_then, map, string_bytes, arith, ◌==◌, IsUtf8, codes, nat_lt, IsAscii, and_parts}
 use Rattle.base_lists.proofs.Common.{IsAscii-cons, IsAscii-nil, option_or, list_any, list_all, nat_tests, IsUtf8-from_ascii}
 use Rattle.std.specs.Prelude.{bytes_eq, unwrap_or}
@@ -43,7 +44,7 @@ past_seam : (xs : Text) (c : ℕ) (ys : Text) → drop (suc (length xs)) (xs ++ 
 past_seam [] c ys = refl
 past_seam (x ∷ xs) c ys = past_seam xs c ys
 
--- what stands behind an ASCII character of a text
+-- The rest of a UTF-8 text behind an ASCII character is UTF-8.
 behind_ascii : (xs : Text) (c : ℕ) (ys : Text) → c < 128 → IsUtf8 (xs ++ c ∷ ys) → IsUtf8 ys
 behind_ascii xs c ys low h =
     let here = at_seam xs c ys in
@@ -154,7 +155,7 @@ said_text option default arguments h k = default_text (values_of option argument
 
 -- ---- the task ----
 
--- the names that a split adds are text
+-- The names that a split adds are UTF-8.
 abbrev pub AreTexts : SplitNames → Type 0
 AreTexts names = IsUtf8 names.import_namespace × IsUtf8 names.placeholder_namespace × IsUtf8 names.export_prefix
 
@@ -205,7 +206,7 @@ made_sample P Q f [] (Some seed) None output h = tt
 made_sample P Q f [] None count output h = tt
 made_sample P Q f (word ∷ plain) seed count output h = tt
 
--- what is so of the task of each command, by what its words say
+-- A property of the task of a command follows from a property of its arguments.
 from_said : (P : Task → Type 0) (S : List Argument → Type 0) (v : Vocabulary) (said : Option (List Argument)) (make : Arguments → Option Task) → ((said : List Argument) → S said → IfSome (make (in_order v (arguments_of said))) P) → IfSome said S
     → IfSome (option_and_then make (option_and_then (said_once v) (option_map arguments_of said))) P
 from_said P S v None make f h = tt
@@ -237,7 +238,7 @@ from_words P f g e word rest h i =
     by false false false false true m n o = i
     by false false false false false m n o = tt
 
--- where it is so of each sample
+-- The task that words of a sample ask for has each property that all samples have.
 any_sample : (P : Task → Type 0) → ((sample : SampleTask) → P (Sample sample)) → (rest : List Text) → IfSome (sample_of rest) P
 any_sample P f rest = from_said P (λ said. Unit {0}) sample_vocabulary (said_from sample_vocabulary None rest) sample_of_arguments (λ said k. made_sample P (λ n. Unit {0}) (λ sample one. f sample) _ _ (count said) _ (any_count (count said))) (any_said (said_from sample_vocabulary None rest))
   where

@@ -1,4 +1,4 @@
--- What the calls that came to their ends make of the module.
+-- The module after the calls that came to their ends.
 use Rattle.base_lists.proofs.Common.{◌≡◌, ◌∙◌, ap, sym, refl, subst, ℕ, zero, suc, ◌≤◌, arith, List, [], ◌∷◌, length, take, is_some, cond, Option, Some, None, ◌⊎◌, option_map, cons_option, option_or}
 use Rattle.wasm_tree_spec.specs.Prelude.{Which, Module}
 use Rattle.module_limits.specs.Counts.{over_limit}
@@ -21,13 +21,14 @@ use Rattle.tools_cli_eval.specs.declared.running.Calls.{Calls}
 use Rattle.tools_cli_eval.specs.Calls.{HaveEnded}
 use Rattle.tools_cli_eval.specs.Evaluations.{IsEvaluation, ended, fault_of}
 
--- the turns that are left are not told
+-- A snapshot does not depend on the turns that are left.
 turns_aside : (m : Module) (s : State) (t : ℕ) (evaluated kept : List Text) → snapshot m (record s { turns = t }) evaluated kept ≡ snapshot m s evaluated kept
 unfolding declared_snapshot
 turns_aside m s t [] kept = refl
 turns_aside m s t (name ∷ names) kept = refl
 
--- the first of names that are there are there, and theirs are the first of the functions
+-- The first `n` of names that are not missing are not missing, and their functions are the first
+-- `n`.
 pub first_there : (m : Module) (names : List Text) (n : ℕ) → first_missing m names ≡ None → first_missing m (take n names) ≡ None
 first_there m names zero h = refl
 first_there m [] (suc n) h = refl
@@ -47,7 +48,7 @@ first_funcs m (name ∷ names) (suc n) h = by (func_named m name) h (first_funcs
     by None e later = absurd (cc)
     by (Some func) e later = ap (λ l. func ∷ l) (later e)
 
--- no more functions than names
+-- Names have no more functions than there are names.
 few_funcs : (m : Module) (names : List Text) → length (funcs_named m names) ≤ length names
 few_funcs m [] = omega arith
 few_funcs m (name ∷ names) = by (func_named m name) (few_funcs m names)
@@ -93,7 +94,7 @@ module _ (m : Module) (names : List Text) (there : first_missing m names ≡ Non
   some_fault kept f e =
       ap (λ o. option_or (option_map NoSuchExport o) (option_map TooMany (over_limit (evaluated_tree m names kept)))) there ∙ (ap (λ t. option_map TooMany (over_limit t)) (sym (tree_is kept)) ∙ e)
 
--- where nothing stops the instantiation and the start, nothing stops the evaluation of no constructor
+-- An evaluation of no constructor is stopped by nothing if the instantiation and the start are not.
 none_stops : (m : Module) (t : Stage) (s : State) → t ≡ Finished s → stop_of (called_in_order m t []) ≡ None
 none_stops m t s e = ap (λ u. stop_of (called_in_order m u [])) e
 

@@ -1,4 +1,5 @@
--- The module after evaluated constructors behaves as the module of which they are evaluated, and the machine evaluates these too.
+-- The module after evaluated constructors is observationally equivalent to the original module, and
+-- the machine evaluates these constructors too.
 use Rattle.std.proofs.Common.{◌≡◌, ◌∙◌, ap, sym, refl, subst, ℕ, List, [], ◌∷◌, take, Option, Some, None, ◌⊎◌, inl, inr}
 use Rattle.wasm_tree.specs.declared.module.Module.{Module}
 use Rattle.wasm_valid.specs.Validity.{IsValid}
@@ -14,7 +15,7 @@ use Rattle.eval_behaves_proof.specs.Laws.{ObservationallyEquivalent, NoneIsEquiv
 use Rattle.tools_cli_eval.specs.Trees.{AreEvaluatedAsByTheMachine, EvaluatedAsByTheMachine, IsSnapshot, TreesBehave}
 use Rattle.tools_cli_eval.proofs.TreesHold.{finished_state, snapshot_at}
 
--- the instantiation is quiet, or something stops it
+-- The instantiation with the start is quiet, or something stops it.
 quiet_or_not : (m : Module) → IsQuiet m [] ⊎ ¬ IsQuiet m []
 quiet_or_not m = by (evaluated m []) refl
   where
@@ -24,7 +25,7 @@ quiet_or_not m = by (evaluated m []) refl
     by (Going s es) e = inr (λ q. let f = sym e ∙ q.1 in cc)
 
 module _ (counted : CountedAreQuiet) (none : NoneCountedBefore) (same : SnapshotEquivalent) (itself : NoneIsEquivalent) where
-  -- a snapshot is taken where the instantiation is quiet
+  -- A snapshot is taken if the instantiation is quiet.
   taken : (m : Module) (names kept : List Text) → IsSnapshot m names kept → IsValid m → BeginsInRange m → ObservationallyEquivalent m (take (evaluated_count m names) names) kept (evaluated_tree m names kept)
   taken m names kept is valid begins =
       subst (ObservationallyEquivalent m (take (evaluated_count m names) names) kept) (sym is.tree) (same m (take (evaluated_count m names) names) kept is.state valid begins is.after)
@@ -34,7 +35,7 @@ module _ (counted : CountedAreQuiet) (none : NoneCountedBefore) (same : Snapshot
       let q = counted m (funcs_named m names) quiet in
       taken m names kept (snapshot_at m names kept there q.0 (ap state_of q.1)) valid begins
 
-  -- and where it is stopped, no constructor is evaluated
+  -- No constructor is evaluated if something stops the instantiation.
   stopped : (m : Module) (names kept : List Text) → ¬ IsQuiet m [] → ObservationallyEquivalent m (take (evaluated_count m names) names) kept (evaluated_tree m names kept)
   stopped m names kept unquiet = by (state_at_end m (funcs_named m names)) refl
     where
@@ -59,7 +60,7 @@ module _ (counted : CountedAreQuiet) (none : NoneCountedBefore) (machines : Quie
   of_none : (m : Module) (kept : List Text) → IsValid m → EvaluatedAsByTheMachine m [] kept
   of_none m kept valid = λ end quiet env ok linked. starts m end valid quiet env ok linked
 
-  -- what a state tells after constructors is what their quiet evaluation left
+  -- Constructors whose quiet evaluation ends in a state are evaluated as by the machine.
   after_them : (m : Module) (names kept : List Text) (s : State) → IsValid m → IsAfter m names s → EvaluatedAsByTheMachine m names kept
   after_them m [] kept s valid is = of_none m kept valid
   after_them m (name ∷ names) kept s valid is = (is.end, is.quiet, λ env ok linked. machines m name names kept is.end valid is.named is.quiet env ok linked)

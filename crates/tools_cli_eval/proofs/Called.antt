@@ -1,4 +1,4 @@
--- Calls in order: where a machine stands after some of them.
+-- The state of a machine after some of the calls in order.
 use Rattle.base_lists.proofs.Common.{◌≡◌, ◌∙◌, ap, sym, refl, ℕ, suc, ◌+◌, ◌<◌, ◌≤◌, arith, List, [], ◌∷◌, ◌++◌, length, take, drop, get_or, false, cond, Some, None, drop_all, drop_more, take_more}
 use Rattle.wasm_tree_spec.specs.Prelude.{Module}
 use Rattle.eval_spec.specs.declared.stop.Stop.{Stop}
@@ -8,7 +8,7 @@ use Rattle.eval_machine.specs.declared.kept.Kept.{Kept}
 use Rattle.eval_machine.specs.Prelude.{SameButForTurns, StopsCall, Rests, state_in}
 use Rattle.tools_cli_eval.specs.Calls.{HaveEnded}
 
--- so many came to their ends, and the rest is called from the machine's state
+-- The first `n` calls came to their ends, and the others are made from the machine's state.
 pub record Stands (m : Module) (funcs : List ℕ) (n : ℕ) (k : Kept) : Type 0 where
   pub rests : Rests m k
   pub rest : evaluated m funcs ≡ called_in_order m (Finished (state_in m k)) (drop n funcs)
@@ -55,7 +55,7 @@ module _ (m : Module) (funcs : List ℕ) (n : ℕ) (k : Kept) (stands : Stands m
   not_finished (Going u es) x e = absurd (cc)
   not_finished (Finished u) x e = absurd (cc)
 
-  -- something stops the next one
+  -- Something stops the next call.
   pub stopped_here : (x : Stop) (j : Kept) → StopsCall m f k x j → SameButForTurns m k j → HaveEnded m funcs (record { count = n; stopped = Some x }) j
   stopped_here x j stops left = record {
     few = omega (arith, within);
@@ -68,7 +68,7 @@ module _ (m : Module) (funcs : List ℕ) (n : ℕ) (k : Kept) (stands : Stands m
     state = left.state;
   }
 
--- all came to their ends
+-- All calls came to their ends.
 pub stopped_nowhere : (m : Module) (funcs : List ℕ) (n : ℕ) (k : Kept) → Stands m funcs n k → length funcs ≤ n → n ≤ length funcs → HaveEnded m funcs (record { count = length funcs; stopped = None }) k
 stopped_nowhere m funcs n k stands all few =
     let none : drop n funcs ≡ [] = drop_all n funcs all in

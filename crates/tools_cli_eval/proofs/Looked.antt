@@ -15,7 +15,7 @@ use Rattle.tools_cli_eval.specs.Named.{AreFuncsOf}
 same_bytes : (x y : Text) → same_text x y ≡ bytes_eq x y
 same_bytes x y = same_tests (same_text x y) (bytes_eq x y) (λ h. (bytes_eq-Decides x y).1 (text_is x y h)) (λ h. ap (same_text x) (sym ((bytes_eq-Decides x y).0 h)) ∙ text_self x)
 
--- one export further to the front
+-- The look-up from one export before: its own name is tested first.
 pub export_before : (es : List Export) (at : ℕ) (e : Export) (name : Text) → 0 < at → at ≤ length es → e ≡ get_or es (at - 1) e →
     export_named (drop (at - 1) es) name ≡ cond (bytes_eq e.name name) (Some e.desc) (export_named (drop at es) name)
 export_before es at e name above within is =
@@ -41,7 +41,8 @@ func_there exported m hold name func h = by (export_named m.exports name) refl h
 
 -- ---- names in order ----
 
--- so many are done: what follows is found by those that are left
+-- The first `n` names are looked up, and the functions of the others are found from the remaining
+-- names.
 pub record Found (m : Module) (names : List Text) (n : ℕ) (funcs : List ℕ) : Type 0 where
   pub named : funcs ++ funcs_named m (drop n names) ≡ funcs_named m names
   pub missing : first_missing m names ≡ first_missing m (drop n names)

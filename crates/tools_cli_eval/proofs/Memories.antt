@@ -1,4 +1,4 @@
--- An evaluation has as many memories as the module, at each point.
+-- An evaluation has as many memories as the module, after any steps.
 use Rattle.base_lists.proofs.Common.{◌≡◌, ◌∙◌, ℕ, zero, suc, ◌+◌, ◌-◌, ◌*◌, arith, List, [], ◌∷◌, ◌++◌, map, length, Bool, true, false, cond, Option, Some, None, slice_get, slice_set, refl, sym, ap, subst, nat_lt, length-map, length-set, same_Some, and_then_is}
 use Rattle.std.proofs.Common.{length-append}
 use Rattle.std.specs.Prelude.{unwrap_or}
@@ -173,7 +173,7 @@ module _ (m : Module) (n : ℕ) where
       each_has (with_data m) (λ t x h. data_mode_has t x x.segment.mode refl h) (segments_in 0 (own_inst m) (own_inst m).datas m.datas) (in_order (with_elem m) (Finished s) elems)
       (each_has (with_elem m) (λ t x h. elem_mode_has t x x.segment.mode refl h) elems (Finished s) (k s refl))
 
--- the store at first
+-- The store before any segment is copied has as many memories as the module.
 first_has : (m : Module) (turns : ℕ) (s : State) → state_at_first m turns ≡ Some s → Has (length (memories_of m)) s.store
 first_has m turns s e =
     let value = value_in m in
@@ -205,7 +205,7 @@ past_end [] n e = refl
 past_end (x ∷ xs) zero e = absurd (cc)
 past_end (x ∷ xs) (suc n) e = past_end xs n (omega (arith, e))
 
--- a module that defines no memory has no bytes
+-- A module that defines no memory has no bytes.
 pub no_bytes_there : (m : Module) (turns : ℕ) (funcs : List ℕ) (s : State) → evaluated_within m turns funcs ≡ Finished s → m.mems ≡ [] → memory_bytes m s ≡ []
 no_bytes_there m turns funcs s e none =
     let many = evaluated_has m turns funcs s e in

@@ -20,7 +20,7 @@ finished_state (Finished u) s e = let same : u ≡ s = cc in ap Finished same
 finished_state (Stopped x left) s e = absurd (cc)
 finished_state (Going u es) s e = absurd (cc)
 
--- where a state stands at the end, the module is the snapshot in it
+-- The module is a snapshot of the state after the evaluated constructors, if there is one.
 pub snapshot_at : (m : Module) (names kept : List Text) → first_missing m names ≡ None → (s : State) → state_at_end m (funcs_named m names) ≡ Some s → IsSnapshot m names kept
 snapshot_at m names kept there s e = record {
   state = s;
@@ -40,7 +40,7 @@ are_snapshots m names kept there = by (state_at_end m (funcs_named m names)) ref
     by None e = inr (ap (tree_in m (take (evaluated_count m names) names) kept) e)
     by (Some s) e = inl (snapshot_at m names kept there s e)
 
--- what is known of snapshots
+-- The laws on snapshots that the lemmas of this file use.
 pub record Known : Type 0 where
   pub typed : ValuesAreTyped
   pub empty_type : EmptyTypesAreThere

@@ -1,4 +1,4 @@
--- Flags that the matches give.
+-- The flags that are set in the matches.
 use Rattle.base_lists.proofs.Common.{◌≡◌, ◌∙◌, refl, sym, ap, Bool, true, false, cond, List, [], ◌∷◌, ◌++◌, append_assoc, Some, codes, filter, list_any, bytes_eq}
 use Rattle.clap.specs.Words.{one_text}
 use Rattle.clap.specs.declared.parser.matches.Found.{Found}

@@ -1,4 +1,4 @@
--- Words that are read one by one.
+-- The loops that read arguments one by one.
 use Rattle.base_lists.proofs.Common.{nat_tests, ◌&&◌, ◌||◌, ◌==◌, is_none, is_some, option_to_list, list_any, ◌≡◌, ◌∙◌, refl, sym, ap, ap₂, ◌++◌, ℕ, suc, ◌+◌, ◌<◌, arith, add-one, map, drop, drop-cons, length, get_or, Bool, true, false, cond, List, [], ◌∷◌, append_assoc, append-nil, Option, Some}
 use Rattle.base_lists.proofs.Common.{None, option_map, option_and_then, Bor, nat_list_eq_equiv}
 use Rattle.std.specs.Prelude.{unwrap_or, bytes_eq}
@@ -6,12 +6,12 @@ use Rattle.std.specs.Option.{option_flatten}
 use Rattle.tools_cli_words.specs.Arguments.{Text, Vocabulary, Argument, Value, Flag, Plain, OptionValue, Arguments, behind, long_name, takes_value, next_argument, add_argument, said_from, arguments_of, values_of, only_text, at_most_one}
 use Rattle.tools_cli_words.specs.Meaning.{join_arguments, names_of}
 
--- ---- one word more ----
+-- ---- one more argument ----
 
 abbrev pub arguments_from : Vocabulary → Option Text → List Text → Option Arguments
 arguments_from v due words = option_map arguments_of (said_from v due words)
 
--- what is said, and then what more words say
+-- Parsed arguments, and then those of more words, if these parse.
 abbrev pub and_then_arguments : Arguments → Option Arguments → Option Arguments
 and_then_arguments arguments more = option_map (join_arguments arguments) more
 
@@ -43,36 +43,36 @@ pub none_before : (more : Option Arguments) → and_then_arguments (arguments_of
 none_before None = refl
 none_before (Some arguments) = refl
 
--- the words from a place on
+-- The words from a position on are the word there and those after it.
 pub words_at : {A B : Type 0} (f : A → B) (xs : List A) (i : ℕ) (x : A) → i < length xs → x ≡ get_or xs i x → map f (drop i xs) ≡ f x ∷ map f (drop (i + 1) xs)
 words_at f xs i x lt is = rw add-one (ap (map f) (drop-cons xs i x lt) ∙ ap (λ y. f y ∷ map f (drop (suc i) xs)) (sym is))
 
 pub none_behind : (v : Vocabulary) (arguments : Arguments) → and_then_arguments arguments (arguments_from v None []) ≡ Some arguments
 none_behind v arguments = simp append-nil
 
--- a word that begins no option, where none wants its value
+-- A word begins no option if it fails the test and no option needs its value.
 pub fresh_word : (due : Option (Bor Text)) (b : Bool) → (is_none due && b) ≡ false → option_map (λ o. o.now) due ≡ None → b ≡ false
 fresh_word None b e none = e
 fresh_word (Some x) b e none = absurd (cc)
 
--- and one that begins an option
+-- A word that passes the test begins an option, and no option needs its value.
 pub begun_word : (due : Option (Bor Text)) (b : Bool) → (is_none due && b) ≡ true → (option_map (λ o. o.now) due ≡ None) × (b ≡ true)
 begun_word None b e = (refl, e)
 begun_word (Some x) b e = absurd (cc)
 
--- an option wants its value
+-- An iteration over an option whose value is the next word.
 pub now_due : (v : Vocabulary) (arguments : Arguments) (whole : Option Arguments) (word : Text) (rest : List Text) → takes_value v.options word ≡ true
     → whole ≡ and_then_arguments arguments (arguments_from v None (word ∷ rest)) → whole ≡ and_then_arguments arguments (arguments_from v (Some (long_name word)) rest)
 now_due v arguments whole word rest e h = h ∙ ap (λ o. and_then_arguments arguments (option_map arguments_of o)) (wants_value v word rest e)
 
--- a word says nothing
+-- A word that does not parse makes all words fail to parse.
 pub wrong_word : (v : Vocabulary) (due : Option Text) (arguments : Arguments) (whole : Option Arguments) (word : Text) (rest : List Text) → (due ≡ None → takes_value v.options word ≡ false)
     → next_argument v due word ≡ None
     → whole ≡ and_then_arguments arguments (arguments_from v due (word ∷ rest)) → whole ≡ None
 wrong_word v due arguments whole word rest test e h =
     h ∙ ap (λ o. and_then_arguments arguments (option_map arguments_of o)) (says_next v due word rest test ∙ ap (λ o. add_argument o (said_from v None rest)) e ∙ add_nothing (said_from v None rest))
 
--- a word says something
+-- An iteration over a word that parses adds its argument.
 pub right_word : (v : Vocabulary) (due : Option Text) (arguments : Arguments) (whole : Option Arguments) (word : Text) (said : Argument) (rest : List Text)
     → (due ≡ None → takes_value v.options word ≡ false) → next_argument v due word ≡ Some said
     → whole ≡ and_then_arguments arguments (arguments_from v due (word ∷ rest)) → whole ≡ and_then_arguments (join_arguments arguments (arguments_of (said ∷ []))) (arguments_from v None rest)
@@ -84,7 +84,7 @@ right_word v due arguments whole word said rest test e h =
 
 -- ---- values and words that are looked up ----
 
--- a value that is found of an option, where another was found or not, and one of another option
+-- The value of an option that may be absent: the one found so far, or one among more values.
 abbrev pub found_then : Option (Bor Text) → List Text → Option (Option Text)
 found_then found more = at_most_one (option_to_list (option_map (λ t. t.now) found) ++ more)
 
@@ -118,7 +118,7 @@ only_from (Some (Some x)) (v ∷ []) e = cc
 only_from None (v ∷ w ∷ values) e = refl
 only_from (Some r) (v ∷ w ∷ values) e = absurd (cc)
 
--- all words of a list are taken
+-- The loop has taken all words when none is left.
 pub all_taken : (words whole : List Text) (rest : List (Bor Text)) → length rest ≡ 0 → words ++ names_of rest ≡ whole → words ≡ whole
 all_taken words whole [] none e = sym (append-nil words) ∙ e
 all_taken words whole (x ∷ rest) none e = absurd (omega arith)
@@ -128,12 +128,12 @@ pub one_taken : (words more whole : List Text) (word : Text) (x : Bor Text) (ite
 one_taken words more whole word x items rest added same first e =
     ap (λ l. l ++ names_of rest) added ∙ append_assoc words (word ∷ []) (names_of rest) ∙ ap (λ w. words ++ w ∷ names_of rest) same ∙ ap (λ l. words ++ names_of l) (sym first) ∙ e
 
--- a word is among others, tested from either side
+-- The test whether a word is among others does not depend on the order of comparison.
 pub any_from_either : (word : Text) (words : List (Bor Text)) → list_any (λ w. bytes_eq w.now word) words ≡ list_any (bytes_eq word) (names_of words)
 any_from_either word [] = refl
 any_from_either word (w ∷ words) = ap₂ (λ a b. a || b) (nat_list_eq_equiv.symm w.now word) (any_from_either word words)
 
--- what stands behind a beginning
+-- The rest of a text after its beginning.
 pub behind_found : (beginning text rest : Text) → text ≡ beginning ++ rest → behind beginning text ≡ Some rest
 behind_found [] text rest e = ap Some e
 behind_found (c ∷ beginning) [] rest e = absurd (cc)

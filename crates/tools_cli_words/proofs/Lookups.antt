@@ -1,4 +1,4 @@
--- What the rows of arranged words say of each option and flag, and of the plain words.
+-- The rows that arranged arguments give for each option and flag, and for the positional arguments.
 use Rattle.base_lists.proofs.Common.{◌≡◌, ◌∙◌, refl, sym, ap, ap₂, subst, ℕ, ◌<◌, ◌^◌, Bool, true, false, cond, List, [], ◌∷◌, ◌++◌, map, length, Option, Some, None, option_map, option_and_then, codes, fold, inl, inr, ◌||◌, ◌&&◌, slice_get, list_any, option_or, bytes_eq, nat_list_eq_equiv}
 use Rattle.base_lists.proofs.Common.{bytes_eq-Decides}
 use Rattle.std.specs.Prelude.{unwrap_or}
@@ -20,7 +20,7 @@ use Rattle.tools_cli_words.proofs.Reader.{Use, Turns, Reads, ReadsOption, ReadsF
 use Rattle.tools_cli_words.proofs.Rows.{or_none, row_at, ids, uses_fault, are_fresh, faultless, none_before, all_put, find_more, found_after}
 use Rattle.tools_cli_words.proofs.Walking.{arranged, plain_row, plain_rows, level_is, rows_are}
 
--- ---- the uses of what is said
+-- ---- the uses of options and flags
 
 abbrev uses : List OptionValue → List Text → List Use
 uses values flags = map (λ (w : OptionValue). option_use w.option w.value) values ++ map flag_use flags
@@ -56,7 +56,7 @@ module _ (top : Shape) (v : Vocabulary) (reader : IsReader top v) where
 
 -- ---- rows of options and flags that are not looked for
 
--- a text of a list is no text that the list lacks
+-- A text of a list differs from a text that is not in the list.
 not_same : (texts : List Text) (x id : Text) → list_any (bytes_eq x) texts ≡ true → list_any (bytes_eq id) texts ≡ false → bytes_eq x id ≡ false
 not_same texts x id among lacks = by (bytes_eq x id) refl
   where
@@ -125,7 +125,7 @@ module _ (v : Vocabulary) (reads : Reads v) (said : Arguments) (proper : IsPrope
   turn : Every (Turns top) (uses_of said)
   turn = uses_turn top v reads.reader said.values said.flags proper.0 proper.1
 
-  -- a fault is there where an option or a flag stands twice, and only there
+  -- There is a fault exactly if an option or a flag is repeated.
   pub fault_is : length said.plain < 2 ^ 64 → is_nothing (fault_of (app_of_vocabulary v) (all_words said)) ≡ are_apart (options_and_flags said)
   fault_is short =
       ap is_nothing (reads.fault (codes "binkit") (arranged_words said) ∙ ap (λ l. level_fault top [] nothing_held l false []) (words_are said.values said.flags said.plain)

@@ -1,4 +1,4 @@
--- What is said has only what the vocabulary has.
+-- Parsed arguments have only options and flags of the vocabulary.
 use Rattle.base_lists.proofs.Common.{◌≡◌, ◌∙◌, refl, sym, ap, subst, Bool, true, false, cond, List, [], ◌∷◌, Option, Some, None, option_map, option_and_then, codes, IfSome, ◌||◌, list_any, option_or, bytes_eq, nat_list_eq_equiv, right_either}
 use Rattle.base_lists.specs.Every.{Every}
 use Rattle.tools_cli_words.specs.Arguments.{Text, Vocabulary, Argument, Value, Flag, Plain, OptionValue, Arguments, is_plain, behind, long_name, takes_value, own_value, some_value, value_behind, joined_value, other_word, next_argument, add_argument, said_from, arguments_of, add_to_arguments}
@@ -8,7 +8,8 @@ IsOf v (Value option value) = list_any (bytes_eq option) v.options ≡ true
 IsOf v (Flag flag) = list_any (bytes_eq flag) v.flags ≡ true
 IsOf v (Plain word) = is_plain word ≡ true
 
--- options and flags are the vocabulary's, and plain words are plain
+-- The options and flags are those of the vocabulary, and the positional arguments can be
+-- positional.
 abbrev pub IsProper : Vocabulary → Arguments → Type 0
 IsProper v said = Every (λ (w : OptionValue). list_any (bytes_eq w.option) v.options ≡ true) said.values × Every (λ flag. list_any (bytes_eq flag) v.flags ≡ true) said.flags × Every
     (λ word. is_plain word ≡ true) said.plain
@@ -20,7 +21,7 @@ own_proper v option word h = by (is_plain word)
     by true = h
     by false = tt
 
--- the option of a joined value is one of these
+-- The argument is an option with its value, and the option is one of these.
 abbrev IsAmong : List Text → Argument → Type 0
 IsAmong options (Value option value) = list_any (bytes_eq option) options ≡ true
 IsAmong options (Flag flag) = ⊥

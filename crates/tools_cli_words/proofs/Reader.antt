@@ -1,4 +1,4 @@
--- What `clap` makes of one word, by the command of a vocabulary.
+-- The reading of one word by `clap`, with the command of a vocabulary.
 use Rattle.base_lists.proofs.Common.{◌≡◌, ℕ, Bool, true, false, List, [], ◌∷◌, ◌++◌, Option, Some, None, codes, fold, ◌==◌, ◌||◌, not, ◌&&◌, if◌then◌else◌, list_all, list_any, bytes_eq}
 use Rattle.std.specs.Prelude.{unwrap_or}
 use Rattle.base_lists.specs.Every.{Every}
@@ -17,7 +17,7 @@ use Rattle.tools_cli_words.specs.Reader.{plain_id, plain_rule, app_of_vocabulary
 
 -- ---- one word
 
--- a word that uses an option or a flag, and what it gives to the matches
+-- A word that uses an option or a flag, and the id and value that it adds to the matches.
 pub record Use : Type 0 where
   pub word : Text
   pub id : Text
@@ -35,18 +35,18 @@ option_use option value = record { word = option ++ codes "=" ++ value; id = opt
 abbrev pub flag_use : Text → Use
 flag_use flag = record { word = flag; id = flag; value = codes "true" }
 
--- before the plain words, and after some of them
+-- The state of `clap` before the positional arguments, and after some of them.
 abbrev pub begun : List Row → Walk
 begun rows = record { held = record { rows = rows; pending = None; skip = 0 }; waiting = idle; position = 1; is_trailing = false; stopped = None }
 
 abbrev pub after_plain : List Row → List Text → Walk
 after_plain rows words = record { held = record { rows = rows; pending = Some (plain_id, words); skip = 0 }; waiting = positional; position = 1; is_trailing = false; stopped = None }
 
--- the word of a use is taken, and refused where its option or flag stands before
+-- The word of a use adds its row, and is a fault exactly if its option or flag is repeated.
 abbrev pub Turns : Shape → Use → Type 0
 Turns top u = (rows : List Row) → (walked top.rules [] (begun rows) u.word ≡ begun (put rows u)) × (turn_fault top [] (begun rows) u.word ≡ or_else (or_else (repeat_fault false u.id rows) []) [])
 
--- the row that defaults give an id
+-- The row that an id has by its defaults.
 abbrev pub has_some : List Text → Bool
 has_some [] = false
 has_some (x ∷ xs) = true
@@ -63,11 +63,12 @@ is_nothing (k ∷ ks) = false
 abbrev pub is_harmless : Rule → Bool
 is_harmless a = is_empty a.defaults || is_nothing (given_default_fault a a.defaults)
 
--- the rule of the plain words in the command that is built
+-- The rule of the positional arguments in the command after it is built.
 abbrev pub built_plain : Rule
 built_plain = record plain_rule { index = Some 1; parser = Some vp.String }
 
--- an option is read; its id has no default and is no flag and not the plain words'
+-- The command reads an option, whose id has no default and is that of no flag and not that of the
+-- positional arguments.
 abbrev pub ReadsOption : Shape → Vocabulary → Text → Type 0
 ReadsOption top v option = ((value : Text)
     → Turns top (option_use option value)) × (default_row option top.rules ≡ None) × (list_any (bytes_eq option) v.flags ≡ false) × (bytes_eq plain_id option ≡ false)
@@ -92,7 +93,8 @@ pub record IsReader (top : Shape) (v : Vocabulary) : Type 0 where
   pub harmless : list_all is_harmless top.rules ≡ true
   pub no_check : (rows : List Row) → check_fault top rows false ≡ []
 
--- the command of a vocabulary reads it, and is one of which clap says what it makes of all words
+-- The command of a vocabulary reads its options and flags, and the faults and rows of `clap` are
+-- known for it.
 pub record Reads (v : Vocabulary) : Type 0 where
   pub reader : IsReader (built (app_of_vocabulary v)).top v
   pub simple : is_simple_and_free (app_of_vocabulary v) ≡ true

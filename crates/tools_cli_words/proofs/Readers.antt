@@ -1,4 +1,4 @@
--- The command of each tool reads its vocabulary.
+-- The command of each tool reads the options and flags of its vocabulary.
 use Rattle.std.proofs.Common.{◌≡◌, refl, true, ◌∷◌, []}
 use Rattle.clap.specs.Words.{built}
 use Rattle.clap.specs.Walk.{nothing_held}

@@ -1,4 +1,4 @@
--- The rows of the matches: what is put there, and what is found.
+-- The rows of the matches: adding rows and looking them up.
 use Rattle.base_lists.proofs.Common.{◌≡◌, ◌∙◌, refl, sym, ap, ap₂, Bool, true, false, cond, List, [], ◌∷◌, ◌++◌, map, append_assoc, append-nil, Option, Some, None, fold, ◌||◌, ◌&&◌, not, find, list_all, list_any, option_or, bytes_eq, bytes_eq-Decides}
 use Rattle.clap.specs.Words.{Row, Rule}
 use Rattle.clap.specs.Walk.{at_row, has_row, with_default, default_rows, without, more_values, reading_by}
@@ -45,7 +45,7 @@ find_more id (r ∷ rows) more = by (bytes_eq r.id id) (find_more id rows more)
     by true h = refl
     by false h = h
 
--- ---- uses that are refused: an option or a flag that stands before
+-- ---- faults of uses: repeated options and flags
 
 abbrev pub uses_fault : List Row → List Use → Kinds
 uses_fault rows [] = []

@@ -1,4 +1,5 @@
--- What `clap` makes of arranged words: uses of options and flags, and then plain words.
+-- The reading of arranged words by `clap`: uses of options and flags, and then positional
+-- arguments.
 use Rattle.base_lists.proofs.Common.{◌≡◌, ◌∙◌, refl, sym, ap, ap₂, subst, ℕ, ◌<◌, ◌≤◌, ◌^◌, arith, Bool, true, false, cond, List, [], ◌∷◌, ◌++◌, map, length, append_assoc, append-nil, Option, Some, None, option_map, codes, fold, ◌||◌, ◌&&◌, ◌==◌, not, nat_lt, list_all, list_any, option_map_or}
 use Rattle.base_lists.proofs.Common.{option_or, bytes_eq, nat_tests, left_true, right_true}
 use Rattle.base_lists.specs.Every.{Every}
@@ -33,7 +34,7 @@ no_minus c h = by (c == 45) h
 abbrev pub ArePlain : List Text → Type 0
 ArePlain words = Every (λ word. is_plain word ≡ true) words
 
--- where the walk ends after plain words, and what these leave in the matches
+-- The state of `clap` after the positional arguments, and the row that they add to the matches.
 abbrev pub ended : List Row → List Text → Walk
 ended rows [] = begun rows
 ended rows (word ∷ words) = after_plain rows (word ∷ words)

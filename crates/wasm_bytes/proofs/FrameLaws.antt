@@ -1,4 +1,5 @@
--- The frames that are read are those of the file, and the bad one is the first.
+-- The frames that are read are those of the file, and the frame reported as bad is the first bad
+-- one.
 use Rattle.std.proofs.Common.{◌≡◌, ◌≢◌, ℕ, zero, suc, ◌+◌, ◌<◌, ◌≤◌, List, [], ◌∷◌, ◌++◌, length, Result, Ok, Err, Bool, true, false, cond, ◌⊎◌, inl, inr, ⊎_elim, refl, sym, ap, ◌∙◌, subst, arith, append_assoc, length-append}
 use Rattle.std.specs.Prelude.{IsTrue}
 use Rattle.wasm_bytes.specs.declared.cursor.Wrong.{Wrong}
@@ -54,7 +55,7 @@ frames_sound (suc fuel) last n (b ∷ bs) ss small e =
 frame_long : (last : ℕ) (text : List ℕ) (s : Section) → SectionFrame last text s → 0 < length text
 frame_long last text s h = rw h.1.2 (omega arith)
 
--- a good frame at the front is read, whatever follows
+-- A good frame at the front is read, whatever bytes follow.
 step_good : (fuel last n : ℕ) (text rest : List ℕ) (s : Section) → SectionFrame last text s → frames_at (suc fuel) last n (text ++ rest) ≡ before s (frames_at fuel (order_after last s.0) (n + 1) rest)
 unfolding frames_at
 step_good fuel last n [] rest s h = absurd (omega (arith, frame_long last [] s h))

@@ -1,4 +1,4 @@
--- What is read behind the header is what the whole file frames.
+-- The frames that are read behind the header are those of the whole file.
 use Rattle.std.proofs.Common.{◌≡◌, ℕ, ◌≤◌, List, ◌++◌, length, drop, Result, Ok, Err, IfOk, ◌⊎◌, inl, inr, refl, sym, ap, ◌∙◌, subst, arith, length-append, length-drop}
 use Rattle.std.specs.Prelude.{IsOkAnd}
 use Rattle.wasm_bytes.specs.declared.framing.Frame.{Frame as Place}
@@ -13,7 +13,7 @@ use Rattle.wasm_bytes.proofs.FrameLaws.{frames_sound, frames_complete, bad_sound
 header_split : (bytes : List ℕ) → HasHeader bytes → bytes ≡ header ++ drop 8 bytes
 header_split bytes h = halves 8 bytes ∙ ap (λ t. t ++ drop 8 bytes) h
 
--- what stands behind the header
+-- The bytes behind the header are the rest of the file.
 behind : (bytes front back : List ℕ) → front ≡ header → bytes ≡ front ++ back → (drop 8 bytes ≡ back) × (length back ≤ length bytes)
 behind bytes front back h e =
     let whole : bytes ≡ header ++ back = e ∙ ap (λ t. t ++ back) h in

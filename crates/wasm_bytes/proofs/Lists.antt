@@ -26,7 +26,7 @@ bytes_drop zero bs h = h
 bytes_drop (suc n) [] h = h
 bytes_drop (suc n) (b ∷ bs) h = bytes_drop n bs (λ i. h (suc i))
 
--- what holds of each entry holds of each entry behind a front
+-- A property of each entry of a list is a property of each entry behind a front.
 pub rest_holds : (P : ℕ → Type 0) (front rest : List ℕ) → ((i : ℕ) → P (slice_index (front ++ rest) i)) → (i : ℕ) → P (slice_index rest i)
 rest_holds P [] rest h = h
 rest_holds P (x ∷ front) rest h = rest_holds P front rest (λ i. h (suc i))

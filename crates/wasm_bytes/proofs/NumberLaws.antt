@@ -1,4 +1,4 @@
--- Reading finds what is spelled, and nothing else.
+-- Reading a number finds the number that the bytes spell, and no other.
 use Rattle.std.proofs.Common.{◌≡◌, ℕ, suc, ◌-◌, ◌^◌, ◌<◌, ◌≤◌, List, [], ◌∷◌, ◌++◌, append-nil, Option, Some, None, Result, Ok, Err, ⊎_elim, refl, sym, ap, ◌∙◌, arith, lt-ltb, le-ltb, ℤ, pos}
 use Rattle.std.proofs.lemmas.Bool.{cases_lt}
 use Rattle.std.proofs.lemmas.Nat.{pow_pos}
@@ -54,7 +54,7 @@ module _ {V : Type 0} (last : ℕ → ℕ → Option V) (join : ℕ → V → V)
   reading_of_cut bits (b ∷ []) x more v h = rw (le-ltb b 128 h.0, lt-ltb 7 bits h.2)
   reading_of_cut bits (b ∷ c ∷ bs) x more v h = rw (le-ltb b 128 h.0, lt-ltb 7 bits h.2, reading_of_cut (bits - 7) (c ∷ bs) x more h.3 h.5)
 
-  -- no spelling goes on to another
+  -- No spelling of a number is a proper prefix of another.
   pub ends_itself : (bits : ℕ) (text more : List ℕ) (v w : V) → SpellsNumber last join bits text v → SpellsNumber last join bits (text ++ more) w → (more ≡ []) × (v ≡ w)
   ends_itself bits text more v w one two =
       let first = reading_of_spelled bits text more v one in
@@ -62,7 +62,7 @@ module _ {V : Type 0} (last : ℕ → ℕ → Option V) (join : ℕ → V → V)
       let both : (v, more) ≡ (w, []) = let k = sym first ∙ whole in cc in
       (ap (λ (p : V × List ℕ). p.1) both, ap (λ (p : V × List ℕ). p.0) both)
 
-  -- 0 can be a last byte
+  -- The following lemmas are for encodings in which 0 can be a last byte.
   module _ (ends : (bits : ℕ) → 0 < bits → (v : V) × (last bits 0 ≡ Some v)) where
     pub cut_of_reading : (bits : ℕ) (bytes : List ℕ) → 0 < bits → IsBytes bytes → reading last join bits bytes ≡ Err Short → IsCut (SpellsNumber last join bits) bytes
     cut_of_reading bits [] some small e = let v = ends bits some in (0, [], v.0, (omega arith, v.1))

@@ -1,4 +1,4 @@
--- What bytes encode is in the range of its type.
+-- A number that bytes encode is in the range of its type.
 use Rattle.base_lists.proofs.Common.{◌≡◌, ℕ, ◌-◌, ◌<◌, ◌^◌, List, [], ◌∷◌, Some, ℤ, pos, ◌-ℤ◌, sym, subst, arith, ⊎_elim, cases_lt, lt-ltb, le-ltb, ints, pow_pos}
 use Rattle.wasm_bytes.specs.Prelude.{Signed, IsWithin, last_unsigned, last_signed}
 use Rattle.wasm_bytes.specs.Numbers.{Unsigned}

@@ -1,4 +1,4 @@
--- Where a frame's content stands, and the loop over the frames.
+-- Where the content of a frame stands, and the loop over the frames.
 use Rattle.std.proofs.Common.{◌≡◌, ℕ, zero, suc, ◌+◌, ◌-◌, ◌<◌, ◌≤◌, List, [], ◌∷◌, ◌++◌, length, take, drop, map, get_or, Result, Ok, Err, true, refl, sym, ap, ◌∙◌, subst, arith, append_assoc, append-nil, length-append}
 use Rattle.wasm_bytes.specs.declared.cursor.Wrong.{Wrong}
 use Rattle.wasm_bytes.specs.declared.framing.Frame.{Frame as Place}
@@ -91,7 +91,8 @@ none_left (suc n) [] h = refl
 none_left zero (b ∷ bs) h = absurd (omega arith)
 none_left (suc n) (b ∷ bs) h = none_left n bs (omega arith)
 
--- what is left goes on to the whole
+-- The frames already read, followed by those read from the remaining bytes, are the frames of all
+-- bytes.
 abbrev pub GoesOn : List ℕ → List Place → ℕ → ℕ → ℕ → Type 0
 GoesOn bytes fs at last count = (fuel : ℕ) × (length bytes ≤ fuel + at) × (frames_behind bytes ≡ in_front (framed_all bytes fs) (frames_at fuel last count (drop at bytes)))
 
@@ -131,7 +132,7 @@ at_last P (y ∷ ys) f here h (suc i) lt g is = at_last P ys f here (λ j l k e.
 pub whole_more : (bytes : List ℕ) (fs : List Place) (f : Place) (new : List Place) → new ≡ fs ++ f ∷ [] → f.start + f.len ≤ length bytes → Whole bytes fs → Whole bytes new
 whole_more bytes fs f new e le h = rw e (at_last (λ g. g.start + g.len ≤ length bytes) fs f le h)
 
--- one more frame behind the others
+-- A further frame stands at the place where the frames before it end.
 pub stand_more : (bytes : List ℕ) (at : ℕ) (fs : List Place) (f : Place) (new : List Place) (end : ℕ) → new ≡ fs ++ f ∷ [] → StandsAt bytes end f → Stand bytes at fs end → Stand bytes at new (f.start + f.len)
 stand_more bytes at [] f new end e one h = rw (e, h) (one, refl)
 stand_more bytes at (g ∷ gs) f new end e one h = rw e (h.0, stand_more bytes (g.start + g.len) gs f (gs ++ f ∷ []) end refl one h.1)

@@ -1,4 +1,4 @@
--- The shortest spelling is one, and no other is shorter.
+-- The shortest spelling of a number is a spelling of it, and no other is shorter.
 use Rattle.base_lists.proofs.Common.{◌≡◌, ℕ, zero, suc, ◌+◌, ◌-◌, ◌*◌, ◌/◌, ◌%◌, ◌^◌, ◌<◌, ◌≤◌, List, [], ◌∷◌, length, Some, refl, ap, ◌∙◌, arith, ⊎_elim, cases_lt, pow-add, pow_mono}
 use Rattle.std.proofs.Common.{lt-ltb, le-ltb}
 use Rattle.wasm_bytes.specs.Prelude.{last_unsigned, join_unsigned}
@@ -20,7 +20,7 @@ more_bits bits n le fits = ⊎_elim (λ lt. lt) (λ few. let h : 2 ^ bits ≤ 2 
 seven : (bits : ℕ) → 7 < bits → 2 ^ bits ≡ 2 ^ (bits - 7) * 128
 seven bits more = let e : bits ≡ (bits - 7) + 7 = omega arith in ap (λ k. 2 ^ k) e ∙ pow-add 2 (bits - 7) 7
 
--- bits are at most seven for each byte
+-- The text of a number spells it if it has at least one byte for each seven bits.
 pub text_spells : (most bits n : ℕ) → bits ≤ 7 * most → n < 2 ^ bits → 0 < bits → Unsigned bits (unsigned_text most n) n
 text_spells zero bits n room fits some = absurd (omega arith)
 text_spells (suc most) bits n room fits some = ⊎_elim
@@ -49,7 +49,7 @@ text_least (suc most) bits n (b ∷ c ∷ bs) h = ⊎_elim
     (λ le. let e : n / 128 ≡ h.3 = omega arith in rw (le-ltb n 128 le, e) (omega (arith, text_least most (bits - 7) h.3 (c ∷ bs) h.5)))
     (cases_lt n 128)
 
--- the text of a number of 32 bits
+-- The text of a number of 32 bits is its shortest spelling.
 pub u32_shortest : (n : ℕ) → n < 2 ^ 32 → IsShortest (Unsigned 32) (unsigned_text 5 n) n
 u32_shortest n fits = record { spells = text_spells 5 32 n (omega arith) fits (omega arith); least = text_least 5 32 n }
 
@@ -57,7 +57,7 @@ pub small_step : (most n : ℕ) → 0 < most → n < 128 → unsigned_text most 
 small_step zero n some lt = absurd (omega arith)
 small_step (suc most) n some lt = text_small most n lt
 
--- at least one more byte follows
+-- The first byte of a number of more than seven bits is followed by at least one more.
 pub large_step : (most n : ℕ) → 128 ≤ n → n < 2 ^ (7 * most) →
     (p : ℕ) × (0 < p) × (n / 128 < 2 ^ (7 * p)) × (unsigned_text most n ≡ (n % 128 + 128) ∷ unsigned_text p (n / 128))
 large_step zero n le fits = absurd (omega arith)

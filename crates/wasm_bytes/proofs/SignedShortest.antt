@@ -1,10 +1,10 @@
--- The shortest spelling of a number with a sign is one, and no other is shorter.
+-- The shortest spelling of a signed number is a spelling of it, and no other is shorter.
 use Rattle.base_lists.proofs.Common.{◌≡◌, ℕ, zero, suc, ◌+◌, ◌-◌, ◌*◌, ◌/◌, ◌%◌, ◌^◌, ◌<◌, ◌≤◌, List, [], ◌∷◌, length, true, false, ℤ, pos, negsuc, ◌-ℤ◌, Some, refl, sym, ap, ◌∙◌, subst, arith, ⊎_elim, cases_lt, lt-ltb, le-ltb, ltb-false, pow-add, ints, pow_mono}
 use Rattle.wasm_bytes.specs.Prelude.{IsWithin, Signed, last_signed, join_signed}
 use Rattle.wasm_bytes.specs.Writing.{low, high, is_small, signed_text, IsShortest}
 use Rattle.wasm_bytes.proofs.NumberLaws.{SpellsNumber-more}
 
--- how far the number is from 0 or -1
+-- The distance of a number from 0, or from -1 if it is negative.
 abbrev pub size : ℤ → ℕ
 size (pos n) = n
 size (negsuc n) = n
@@ -89,7 +89,7 @@ signed_spells (suc most) bits z room some w =
     (signed_spells most (bits - 7) (high z) (omega arith) (omega arith) (size_within (bits - 7) (high z) (omega arith)))))
     (cases_lt (size z) 64)
 
--- a last byte is that of a number near 0
+-- A number whose spelling is one last byte is less than 64 away from 0 or -1.
 last_is : (bits b : ℕ) (z : ℤ) → b < 128 → last_signed bits b ≡ Some z → size z < 64
 last_is bits b z small e = ⊎_elim
     (λ lt. let a = rw (lt-ltb b 64 lt) at e in ⊎_elim

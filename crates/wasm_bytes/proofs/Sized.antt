@@ -1,4 +1,4 @@
--- What is read off the left is what is spelled there.
+-- The number or content that is read off the front of bytes is the one that is spelled there.
 use Rattle.base_lists.proofs.Common.{◌≡◌, ℕ, ◌≤◌, List, ◌++◌, length, take, drop, Result, Ok, Err, cond, ⊎_elim, refl, sym, ap, ◌∙◌, subst, arith, append_assoc, cases_lt, lt-ltb, le-ltb, nat_lt, bind_ok}
 use Rattle.std.proofs.Common.{length-append}
 use Rattle.wasm_bytes.specs.declared.cursor.Wrong.{Wrong}
@@ -31,7 +31,7 @@ take_complete text rest =
     let fits : length text ≤ length (text ++ rest) = omega (arith, length-append text rest) in
     rw (le-ltb (length (text ++ rest)) (length text) fits, take_all text rest, drop_all text rest)
 
--- a content behind its length, whatever encodes the length
+-- The content behind its length, for any encoding of the length.
 module _ (encodes : List ℕ → ℕ → Type 0) (reader : List ℕ → Result (ℕ × List ℕ) Wrong) where
   pub content_sound : ((bytes : List ℕ) (n : ℕ) (rest : List ℕ) → IsBytes bytes → reader bytes ≡ Ok (n, rest) → Takes encodes bytes n rest) → (bytes content rest : List ℕ) → IsBytes bytes →
       (reader bytes >>= (λ n. take_at n.0 n.1)) ≡ Ok (content, rest) → TakesOff (λ t. (size : List ℕ) × encodes size (length content) × (t ≡ size ++ content)) bytes rest

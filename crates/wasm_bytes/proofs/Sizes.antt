@@ -1,4 +1,4 @@
--- Sizes of what seven more bits make.
+-- The sizes of numbers with seven more bits.
 use Rattle.base_lists.proofs.Common.{◌≡◌, ℕ, ◌+◌, ◌-◌, ◌*◌, ◌^◌, ◌<◌, ◌≤◌, arith, ◌∙◌, ap, ℤ, ints, pow-add, pow_mono}
 use Rattle.wasm_bytes.specs.Prelude.{IsWithin, join_signed}
 

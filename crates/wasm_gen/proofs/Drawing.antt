@@ -1,4 +1,4 @@
--- Lists of what is made for each number, with one more.
+-- Lists of what is made for each number, extended by one number.
 use Rattle.base_lists.proofs.Common.{◌≡◌, ◌∙◌, ap, ap₂, sym, ℕ, suc, ◌+◌, ◌*◌, ◌%◌, ◌++◌, ◌∷◌, List, [], map, arith, map-append, numbers_more}
 use Rattle.base_lists.specs.Places.{numbers}
 use Rattle.wasm_tree.specs.declared.module.ImportDesc.TheVariants as imported

@@ -1,4 +1,5 @@
--- Samples of seed 1, computed: with one function each, and with two. (What a name spells is told by a test, since `decimal` computes no further here.)
+-- Samples of seed 1, computed: with one function each, and with two. (A test shows the spelling of
+-- the names, because `decimal` does not compute here.)
 use Rattle.base_lists.proofs.Common.{◌≡◌, refl, [], ◌∷◌, map, pos}
 use Rattle.base_lists.specs.Places.{numbers}
 use Rattle.wasm_num.specs.declared.BinOp.TheVariants.{I32Add, I32Xor}
@@ -14,11 +15,11 @@ first_of_one = refl
 second_of_one : (second_func (draw 1 2) 1 0).body ≡ LocalGet 0 ∷ (Call 0 ∷ [])
 second_of_one = refl
 
--- the second function takes the third and the fourth draw
+-- The second function takes the third and the fourth draw.
 next_of_two : (first_func 1 1).body ≡ LocalGet 0 ∷ (I32Const (pos 662824084) ∷ (Bin I32Xor ∷ []))
 next_of_two = refl
 
--- the fifth draw is even and the sixth odd
+-- The fifth draw is even and the sixth is odd.
 callees_of_two : map (λ i. (second_func (draw 1 4) 2 i).body) (numbers 0 2) ≡ (LocalGet 0 ∷ (Call 0 ∷ [])) ∷ ((LocalGet 0 ∷ (Call 1 ∷ [])) ∷ [])
 callees_of_two = refl
 
@@ -28,6 +29,6 @@ imports_of_one = refl
 exports_of_one : exports_of f 0 1 ≡ record { name = numbered f 0; desc = exported.Func 0 } ∷ []
 exports_of_one = refl
 
--- the second exports behind its imports
+-- The second module exports the functions behind its imports.
 exports_behind_imports : exports_of g 1 1 ≡ record { name = numbered g 0; desc = exported.Func 1 } ∷ []
 exports_behind_imports = refl

@@ -65,7 +65,7 @@ passed_typed c callee h there type =
 
 -- ---- items ----
 
--- all of one type, with so many exported from an index on
+-- A module whose functions all have one type and which exports `count` functions from an index on.
 module _ (imports : List Import) (func : ℕ → Func) (letter : List ℕ) (index count : ℕ) where
   abbrev whole : Module
   whole = module_of imports (map func (numbers 0 count)) (exports_of letter index count)
@@ -139,7 +139,7 @@ module _ (state count : ℕ) (some : 1 ≤ count) (few : count < 2 ^ 31) where
       let right = length-map second.funcs (λ (x : Func). x.ty) ∙ many (second_func state count) 0 count in
       ap length funcs_are ∙ length-append (replicate count 0) (map (λ (x : Func). x.ty) second.funcs) ∙ omega (arith, left, right)
 
-  -- what is drawn is imported
+  -- The function of a drawn number is imported.
   callee_there : (n : ℕ) → slice_get (funcs_of second) (n % count) ≡ Some 0
   callee_there n = ap (λ xs. slice_get xs (n % count)) funcs_are ∙ append_at_left (replicate count 0) _ (n % count) 0 (replicate_at 0 count (n % count) (omega (arith, some)))
 
@@ -178,7 +178,7 @@ first_bounded seed count m few e = subst IsBounded (sym e) (record {
   locals = no_locals (first_func seed) count (λ i. refl);
 })
 
--- no import is of another kind than a function
+-- Each import is a function, so there is no import of another kind.
 none_else : {A : Type 0} (of : ImportDesc → Option A) → of (imported.Func 0) ≡ None → (n k : ℕ) → filter_map (λ (x : Import). of x.desc) (map (λ i. record { «module» = a; field = numbered f i; desc = imported.Func 0 }) (numbers n k)) ≡ []
 none_else of is n zero = refl
 none_else of is n (suc k) = ap (λ o. cons_option o (filter_map (λ (x : Import). of x.desc) (map (λ i. record { «module» = a; field = numbered f i; desc = imported.Func 0 }) (numbers (suc n) k)))) is ∙ none_else of is (suc n) k

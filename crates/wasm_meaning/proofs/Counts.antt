@@ -1,4 +1,4 @@
--- Parts by their number, and how much the parts before one define.
+-- Parts by their number, and the number of entities that the parts before a part define.
 use Rattle.base_lists.proofs.Common.{◌≡◌, ap, refl, ℕ, zero, suc, ◌+◌, ◌-◌, ◌≤◌, List, [], ◌∷◌, length, Some, arith, same_Some}
 use Rattle.wasm_tree_spec.specs.Prelude.{Space, Module}
 use Rattle.wasm_meaning.specs.Prelude.{Part, module_at, defined_count, defined_before}

@@ -1,4 +1,5 @@
--- What an embedder does, computed: it extends what is its own, its own functions and those that it was shown are passed and called, and moves that are not taken.
+-- The moves of an embedder, computed: it extends its own tables and memories, passes and calls its
+-- own functions and those that it was shown, and makes moves that are not taken.
 use Rattle.base_lists.proofs.Common.{◌≡◌, refl, [], ◌∷◌, Some, None, false}
 use Rattle.wasm_tree.specs.declared.types.RefType.TheVariants as reft
 use Rattle.wasm_tree.specs.declared.types.ValType.TheVariants as valt
@@ -14,7 +15,7 @@ use Rattle.wasm_meaning.proofs.SmallRuns.{f, g, e, m, i32, to_i32, empty, code, 
 
 -- ---- modules, worlds and environments ----
 
--- a memory of no page and a table of one null, which may grow by one each
+-- An environment with a memory of no page and a table of one null, which may grow by one each.
 abbrev room : Environment
 room = record {
   pair = (e, m);
@@ -24,23 +25,23 @@ room = record {
   global = None;
 } ∷ []
 
--- a module that gives the size of that memory
+-- A module that gives the size of that memory.
 abbrev sizing : World
 sizing = plain (record (gives (i.MemorySize 0 ∷ [])) { imports = record { «module» = e; field = m; desc = im.Memory (record { min = 0; max = Some 1 }) } ∷ [] })
 
--- an immutable global that is 3
+-- An environment with an immutable global that is 3.
 abbrev fixed : Environment
 fixed = record { pair = (e, m); funcs = []; table = None; memory = None; global = Some (record { ty = record { ty = i32; mutable = false }; value = Number 3 }) } ∷ []
 
--- the environment's function g of e as it is, and a function that gives 5
+-- A world whose view has the environment's function g of e as it is, and a function that gives 5.
 abbrev around : World
 around = record { parts = record { name = None; «module» = importing (num 5 ∷ []) } ∷ []; view = (g, record { part = 0; what = ex.Func 0 }) ∷ ((f, record { part = 0; what = ex.Func 1 }) ∷ []) }
 
--- the same function, as a value
+-- The environment's function g of e, as a value.
 abbrev its_own : Shown
 its_own = OwnFunc (e, g) to_i32
 
--- f calls the function that it gets, through a table; g gives 5
+-- In this module, f calls the function that it gets, through a table, and g gives 5.
 abbrev applying : Module
 applying = record empty {
   types = record { params = valt.Ref reft.Func ∷ []; results = i32 ∷ [] } ∷ (to_i32 ∷ []);
@@ -51,7 +52,7 @@ applying = record empty {
 abbrev applied : World
 applied = record { parts = record { name = None; «module» = applying } ∷ []; view = (f, record { part = 0; what = ex.Func 0 }) ∷ ((g, record { part = 0; what = ex.Func 1 }) ∷ []) }
 
--- the function g of e, and a table of one null
+-- An environment with the function g of e and a table of one null.
 abbrev own_and_table : Environment
 own_and_table = record { pair = (e, g); funcs = to_i32 ∷ []; table = Some (record { ty = reft.Func; limits = record { min = 1; max = Some 1 }; entries = Null ∷ [] }); memory = None; global = None } ∷ []
 

@@ -1,4 +1,4 @@
--- What an environment is and is not, and which it links with which world, computed.
+-- What is and what is not an environment, and which environments link with which worlds, computed.
 use Rattle.base_lists.proofs.Common.{◌≡◌, refl, ap, ◌∙◌, ℕ, zero, suc, ◌*◌, List, [], ◌∷◌, length, Some, None, Bool, true, false, ◌&&◌, pos, nat_le, nat_eq, nat_lt, eq-eqb, copies_length}
 use Rattle.wasm_tree.specs.declared.types.RefType.TheVariants as reft
 use Rattle.wasm_tree_spec.specs.Prelude.{ValType, Limits, Module}
@@ -38,7 +38,7 @@ funcs_in limits entries = record { ty = reft.Func; limits = limits; entries = en
 abbrev pages_of_zeros : Limits → ℕ → OwnMemory
 pages_of_zeros limits n = record { limits = limits; pages = n; bytes = copies (65536 * n) 0 }
 
--- the function that it offers, as a value
+-- The function that the environment offers, as a value.
 abbrev its_func : Shown
 its_func = OwnFunc (e, g) to_i32
 
@@ -59,7 +59,7 @@ an_immutable_global_of_a_function = refl
 a_mutable_global_of_a_number : is_environment (offers_global true valt.I64 (Number 18446744073709551615) ∷ []) ≡ true
 a_mutable_global_of_a_number = refl
 
--- one pair may offer all kinds
+-- One pair of names may offer entities of all kinds.
 all_kinds_under_one_pair : is_environment (record (offers_nothing g) { funcs = to_i32 ∷ (nothing ∷ []); table = Some (funcs_in (within 1 1) (Null ∷ [])); memory = Some (pages_of_zeros (within 0 0) 0); global = Some (record { ty = record { ty = i32; mutable = true }; value = Number 4294967295 }) } ∷
     []) ≡ true
 all_kinds_under_one_pair = refl
@@ -73,12 +73,12 @@ zeros_are_bytes (suc n) = zeros_are_bytes n
 both : {x y : Bool} → x ≡ true → y ≡ true → (x && y) ≡ true
 both e f = rw e f
 
--- a memory of so many pages of zeros, where its limits let it have them
+-- A number of pages of zeros is a memory if its limits allow this number of pages.
 zeros_are_a_memory : (limits : Limits) (n : ℕ) → is_within n limits ≡ true → where_there (λ most. nat_le most 65536) limits.max ≡ true → nat_le n 65536 ≡ true → is_memory (pages_of_zeros limits n) ≡ true
 zeros_are_a_memory limits n size most few =
     both size (both most (both few (both (ap (λ k. nat_eq k (65536 * n)) (copies_length (65536 * n) 0) ∙ eq-eqb (65536 * n) (65536 * n) refl) (zeros_are_bytes (65536 * n)))))
 
--- and none with other bytes than these pages have
+-- A memory has as many bytes as its pages have, and each of them is less than 256.
 no : (x : Bool) {y : Bool} → y ≡ false → (x && y) ≡ false
 no true e = e
 no false e = refl
@@ -96,11 +96,11 @@ three_pages = zeros_are_a_memory (within 2 65536) 3 refl refl refl
 an_environment_of_three_pages : is_environment (offers_memory (pages_of_zeros (within 2 65536) 3) ∷ []) ≡ true
 an_environment_of_three_pages = ap (λ x. x && true) (ap (λ x. true && (true && (x && true))) three_pages)
 
--- the bytes of two pages are not those of three
+-- The bytes of two pages are not those of three pages.
 bytes_are_as_many_as_pages : is_memory (record (pages_of_zeros (within 2 65536) 3) { bytes = copies (65536 * 2) 0 }) ≡ false
 bytes_are_as_many_as_pages = other_sizes_are_none (within 2 65536) 3 (65536 * 2) refl
 
--- as many as a memory may have, and one more: without a maximum, so that its size is within its limits
+-- A memory without a maximum has at most 65,536 pages, and no memory has a greater maximum.
 a_memory_may_have_65536_pages : is_memory (pages_of_zeros (record { min = 0; max = None }) 65536) ≡ true
 a_memory_may_have_65536_pages = zeros_are_a_memory (record { min = 0; max = None }) 65536 refl refl refl
 
@@ -118,7 +118,7 @@ two_offers_of_one_pair = refl
 one_type_twice : is_environment (record (offers_nothing g) { funcs = to_i32 ∷ (nothing ∷ (to_i32 ∷ [])) } ∷ []) ≡ false
 one_type_twice = refl
 
--- sizes outside their limits
+-- The sizes of tables and memories are within their limits.
 a_table_below_its_minimum : is_environment (offers_table (funcs_in (within 2 4) (Null ∷ [])) ∷ []) ≡ false
 a_table_below_its_minimum = refl
 
@@ -134,7 +134,7 @@ a_memory_below_its_minimum = refl
 a_memory_above_its_maximum : is_memory (pages_of_zeros (within 0 1) 2) ≡ false
 a_memory_above_its_maximum = refl
 
--- values of another type
+-- The values of tables and globals are of the type of the table or global.
 a_number_is_no_reference : is_environment (offers_global true (valt.Ref reft.Extern) (Number 1) ∷ []) ≡ false
 a_number_is_no_reference = refl
 
@@ -153,7 +153,7 @@ a_function_that_is_not_offered = refl
 a_function_of_another_type_than_offered : is_environment (offers_func ∷ (offers_global false (valt.Ref reft.Func) (OwnFunc (e, g) nothing) ∷ [])) ≡ false
 a_function_of_another_type_than_offered = refl
 
--- none was shown yet
+-- No function has a number, because none was shown yet.
 no_function_has_a_number : is_environment (offers_func ∷ (offers_global false (valt.Ref reft.Func) (Function 0) ∷ [])) ≡ false
 no_function_has_a_number = refl
 
@@ -162,7 +162,7 @@ a_byte_is_below_256 = a_great_byte_is_none (within 1 1) 1 65535
 
 -- ---- links ----
 
--- it imports the function g of e
+-- A module that imports the function g of e.
 abbrev wants : Module → Module
 wants x = record x { imports = record { «module» = e; field = g; desc = im.Func 0 } ∷ [] }
 
@@ -175,7 +175,7 @@ it_does_not_link_what_it_lacks = refl
 it_does_not_link_another_type : links (record offers_func { funcs = nothing ∷ [] } ∷ []) (plain (wants (gives (num 5 ∷ [])))) ≡ false
 it_does_not_link_another_type = refl
 
--- its one active segment is past the end of its memory, which has no page
+-- A world links although its one active segment is past the end of its memory, which has no page.
 it_links_though_a_segment_traps : links [] (plain (record (gives (num 5 ∷ [])) { mems = within 0 1 ∷ []; datas = record { mode = data'.Active 0 (const.I32 (pos 0)); bytes = 1 ∷ [] } ∷ [] })) ≡ true
 it_links_though_a_segment_traps = refl
 
@@ -185,6 +185,6 @@ it_links_though_an_element_segment_traps = refl
 it_links_though_a_start_traps : links [] (plain (record empty { funcs = code 2 (i.Unreachable ∷ []) ∷ []; start = Some 0 })) ≡ true
 it_links_though_a_start_traps = refl
 
--- the view has a name that denotes nothing
+-- A view with a name that denotes nothing does not link.
 it_does_not_link_a_view_of_nothing : links [] (plain empty) ≡ false
 it_does_not_link_a_view_of_nothing = refl

@@ -1,14 +1,14 @@
--- What is exported under a name.
+-- The export that is found under a name.
 use Rattle.base_lists.proofs.Common.{◌≡◌, refl, ℕ, suc, List, [], ◌∷◌, Bool, true, false, cond, Some, slice_get, same_Some}
 use Rattle.base_lists.proofs.Same.{text_is}
 use Rattle.wasm_tree_spec.specs.Prelude.{Export, ExportDesc}
 use Rattle.wasm_meaning.specs.Prelude.{Text, export_named, same_text}
 
--- an export of this name has this description
+-- An export of this name has this description.
 abbrev Exported : List Export → Text → ExportDesc → Type 0
 Exported es name d = (n : ℕ) × (e : Export) × (slice_get es n ≡ Some e) × (e.desc ≡ d) × (e.name ≡ name)
 
--- what is found under a name is exported
+-- A description found under a name is that of an export of this name.
 pub exported_there : (es : List Export) (name : Text) (d : ExportDesc) → export_named es name ≡ Some d → Exported es name d
 exported_there [] name d h = absurd (let k = h in cc)
 exported_there (e ∷ es) name d h = by (same_text e.name name) refl h (exported_there es name d)

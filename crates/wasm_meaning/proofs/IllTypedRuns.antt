@@ -1,4 +1,5 @@
--- Code that no validation lets through, computed: where it is ill typed it traps. No engine takes these modules. Beside three of them stands what goes on.
+-- Runs of code that does not validate, computed: it traps where it is ill typed. No engine accepts
+-- these modules. Some of them stand beside a similar module that does not trap.
 use Rattle.base_lists.proofs.Common.{◌≡◌, refl, [], ◌∷◌, Some, false, pos}
 use Rattle.wasm_num.specs.declared.BinOp.TheVariants as bin
 use Rattle.wasm_tree.specs.declared.types.RefType.TheVariants as reft
@@ -59,183 +60,183 @@ a_start_that_gives_a_result : events (plain (record (gives (num 5 ∷ [])) { sta
 unfolding out-Instr denote.Hole.Carrier.out wrapped un_from un_to un_value bin_from bin_to bin_value load_to load_width loaded store_from stored
 a_start_that_gives_a_result = refl
 
--- what a block leaves beside its results is dropped at its end
+-- The values that a block leaves besides its results are dropped at its end.
 surplus_values_are_dropped : f_gives (gives (num 7 ∷ (i.Block (bt.Value valt.I32) (num 4 ∷ (num 5 ∷ [])) ∷ (i.Bin bin.I32Add ∷ [])))) 12 ≡ returns (Number 12 ∷ [])
 unfolding wrapped bin_from bin_to bin_value
 surplus_values_are_dropped = simp (i.outs-Block, i.outs-I32Const, i.outs-Bin) refl
 
 -- ---- labels that are not taken ----
 
--- what a branch would take is missing, and the branch is not taken
+-- The value that a branch would take is missing, and the branch is not taken.
 a_branch_not_taken_takes_nothing : f_gives (gives (num 0 ∷ (i.BrIf 0 ∷ (num 6 ∷ [])))) 25 ≡ returns (Number 6 ∷ [])
 unfolding out-Instr denote.Hole.Carrier.out wrapped un_from un_to un_value bin_from bin_to bin_value load_to load_width loaded store_from stored
 a_branch_not_taken_takes_nothing = refl
 
--- the label is missing, and the branch is not taken
+-- The label of a branch is missing, and the branch is not taken.
 a_branch_not_taken_wants_no_label : f_gives (gives (num 5 ∷ (num 0 ∷ (i.BrIf 1 ∷ [])))) 25 ≡ returns (Number 5 ∷ [])
 unfolding out-Instr denote.Hole.Carrier.out wrapped un_from un_to un_value bin_from bin_to bin_value load_to load_width loaded store_from stored
 a_branch_not_taken_wants_no_label = refl
 
--- the same label is missing, and the branch is taken
+-- The same label is missing, and the branch is taken.
 a_branch_that_is_taken_wants_its_label : f_gives (gives (num 5 ∷ (num 1 ∷ (i.BrIf 1 ∷ [])))) 25 ≡ Linked ∷ (Trapped ∷ [])
 unfolding out-Instr denote.Hole.Carrier.out wrapped un_from un_to un_value bin_from bin_to bin_value load_to load_width loaded store_from stored
 a_branch_that_is_taken_wants_its_label = refl
 
--- so is what it takes
+-- The value that a branch takes is missing, and the branch is taken.
 a_branch_that_is_taken_wants_its_values : f_gives (gives (num 1 ∷ (i.BrIf 0 ∷ (num 6 ∷ [])))) 25 ≡ Linked ∷ (Trapped ∷ [])
 unfolding out-Instr denote.Hole.Carrier.out wrapped un_from un_to un_value bin_from bin_to bin_value load_to load_width loaded store_from stored
 a_branch_that_is_taken_wants_its_values = refl
 
--- a label of a table that is not chosen is missing, and so is the last
+-- A label of a table that is not chosen is missing, and so is the last label.
 a_label_that_is_not_chosen_is_not_wanted : f_gives (gives (num 5 ∷ (num 0 ∷ (i.BrTable (0 ∷ (1 ∷ [])) 1 ∷ [])))) 25 ≡ returns (Number 5 ∷ [])
 unfolding out-Instr denote.Hole.Carrier.out wrapped un_from un_to un_value bin_from bin_to bin_value load_to load_width loaded store_from stored
 a_label_that_is_not_chosen_is_not_wanted = refl
 
--- the label that is chosen is missing
+-- The label of a table that is chosen is missing.
 the_label_that_is_chosen_is_wanted : f_gives (gives (num 5 ∷ (num 1 ∷ (i.BrTable (0 ∷ (1 ∷ [])) 0 ∷ [])))) 25 ≡ Linked ∷ (Trapped ∷ [])
 unfolding out-Instr denote.Hole.Carrier.out wrapped un_from un_to un_value bin_from bin_to bin_value load_to load_width loaded store_from stored
 the_label_that_is_chosen_is_wanted = refl
 
 -- ---- values that enter a block, a loop or an if ----
 
--- an i64 enters a block that takes an i32, and would be dropped there
+-- An i64 enters a block that takes an i32, and would be dropped there.
 a_block_takes_another_type : f_gives (gives (i.I64Const (pos 5) ∷ (i.Block (bt.Index 1) (i.Drop ∷ (num 6 ∷ [])) ∷ []))) 7 ≡ Linked ∷ (Trapped ∷ [])
 unfolding wrapped
 a_block_takes_another_type = simp (i.outs-Block, i.outs-I64Const) refl
 
--- an i32 enters it, and the block goes on
+-- An i32 enters the block, which goes on.
 a_block_of_its_type : f_gives (gives (num 5 ∷ (i.Block (bt.Index 1) (i.Drop ∷ (num 6 ∷ [])) ∷ []))) 9 ≡ returns (Number 6 ∷ [])
 unfolding wrapped
 a_block_of_its_type = simp (i.outs-Block, i.outs-I32Const, i.outs-Drop) refl
 
--- the same of a loop
+-- An i64 enters a loop that takes an i32.
 a_loop_takes_another_type : f_gives (gives (i.I64Const (pos 5) ∷ (i.Loop (bt.Index 1) (i.Drop ∷ (num 6 ∷ [])) ∷ []))) 7 ≡ Linked ∷ (Trapped ∷ [])
 unfolding wrapped
 a_loop_takes_another_type = simp (i.outs-Loop, i.outs-I64Const) refl
 
--- which goes on with an i32
+-- An i32 enters the loop, which goes on.
 a_loop_of_its_type : f_gives (gives (num 5 ∷ (i.Loop (bt.Index 1) (i.Drop ∷ (num 6 ∷ [])) ∷ []))) 9 ≡ returns (Number 6 ∷ [])
 unfolding wrapped
 a_loop_of_its_type = simp (i.outs-Loop, i.outs-I32Const, i.outs-Drop) refl
 
--- the same of the first arm of an if
+-- An i64 enters the first arm of an if that takes an i32.
 an_arm_takes_another_type : f_gives (gives (i.I64Const (pos 5) ∷ (num 1 ∷ (i.If (bt.Index 1) (i.Drop ∷ (num 6 ∷ [])) (i.Drop ∷ (num 7 ∷ [])) ∷ [])))) 8 ≡ Linked ∷ (Trapped ∷ [])
 unfolding wrapped
 an_arm_takes_another_type = simp (i.outs-If, i.outs-I64Const, i.outs-I32Const) refl
 
--- and of the second
+-- An i64 enters the second arm of an if that takes an i32.
 the_other_arm_takes_another_type : f_gives (gives (i.I64Const (pos 5) ∷ (num 0 ∷ (i.If (bt.Index 1) (i.Drop ∷ (num 6 ∷ [])) (i.Drop ∷ (num 7 ∷ [])) ∷ [])))) 8 ≡ Linked ∷ (Trapped ∷ [])
 unfolding wrapped
 the_other_arm_takes_another_type = simp (i.outs-If, i.outs-I64Const, i.outs-I32Const) refl
 
--- with an i32 the first arm goes on
+-- An i32 enters the first arm, which goes on.
 an_arm_of_its_type : f_gives (gives (num 5 ∷ (num 1 ∷ (i.If (bt.Index 1) (i.Drop ∷ (num 6 ∷ [])) (i.Drop ∷ (num 7 ∷ [])) ∷ [])))) 10 ≡ returns (Number 6 ∷ [])
 unfolding wrapped
 an_arm_of_its_type = simp (i.outs-If, i.outs-I32Const, i.outs-Drop) refl
 
--- and of the second where there is none
+-- An i64 enters an if that takes an i32 and has no second arm.
 no_second_arm_takes_another_type : f_gives (gives (i.I64Const (pos 5) ∷ (num 0 ∷ (i.If (bt.Index 1) (i.Drop ∷ (num 6 ∷ [])) [] ∷ [])))) 8 ≡ Linked ∷ (Trapped ∷ [])
 unfolding wrapped
 no_second_arm_takes_another_type = simp (i.outs-If, i.outs-I64Const, i.outs-I32Const) refl
 
--- a block whose parameter is missing
+-- The parameter of a block is missing.
 a_block_without_its_value : f_gives (gives (i.Block (bt.Index 1) (num 6 ∷ []) ∷ [])) 6 ≡ Linked ∷ (Trapped ∷ [])
 unfolding wrapped
 a_block_without_its_value = simp (i.outs-Block) refl
 
--- an i64 below an i32, where the block takes an i32 below an i64
+-- An i64 below an i32 enters a block that takes an i32 below an i64.
 a_block_takes_two_types_in_another_order : f_gives (record (gives (i.I64Const (pos 5) ∷ (num 9 ∷ (i.Block (bt.Index 1) (i.Return ∷ []) ∷ [])))) { types = to_i32 ∷ (record { params = i32 ∷ (i64 ∷ []); results = i32 ∷ [] } ∷ []) }) 8 ≡ Linked ∷ (Trapped ∷ [])
 unfolding wrapped
 a_block_takes_two_types_in_another_order = simp (i.outs-Block, i.outs-I64Const, i.outs-I32Const) refl
 
--- a branch to a loop takes a value of another type than the loop does
+-- A branch to a loop takes a value of another type than the loop does.
 a_branch_to_a_loop_counts_its_values : f_gives (gives (num 5 ∷ (i.Loop (bt.Index 1) (i.Drop ∷ (i.I64Const (pos 7) ∷ (i.Br 0 ∷ []))) ∷ []))) 8 ≡ Linked ∷ []
 unfolding wrapped
 a_branch_to_a_loop_counts_its_values = simp (i.outs-Loop, i.outs-I64Const, i.outs-I32Const, i.outs-Drop, i.outs-Br) refl
 
--- and the step in which the loop begins again with it traps
+-- The step in which the loop begins again with this value traps.
 a_loop_begins_again_with_another_type : f_gives (gives (num 5 ∷ (i.Loop (bt.Index 1) (i.Drop ∷ (i.I64Const (pos 7) ∷ (i.Br 0 ∷ []))) ∷ []))) 9 ≡ Linked ∷ (Trapped ∷ [])
 unfolding wrapped
 a_loop_begins_again_with_another_type = simp (i.outs-Loop, i.outs-I64Const, i.outs-I32Const, i.outs-Drop, i.outs-Br) refl
 
--- an if whose condition is an i64
+-- The condition of an if is an i64.
 a_condition_of_another_type : f_gives (gives (i.I64Const (pos 1) ∷ (i.If (bt.Value valt.I32) (num 6 ∷ []) (num 7 ∷ []) ∷ []))) 7 ≡ Linked ∷ (Trapped ∷ [])
 unfolding wrapped
 a_condition_of_another_type = simp (i.outs-If, i.outs-I64Const) refl
 
 -- ---- values of another type elsewhere ----
 
--- an i32 local is set to an i64
+-- An i32 local is set to an i64.
 a_local_is_set_to_another_type : f_gives (record empty { funcs = code' 0 (i.I64Const (pos 5) ∷ (i.LocalSet 0 ∷ (num 1 ∷ []))) ∷ [] }) 25 ≡ Linked ∷ (Trapped ∷ [])
 unfolding out-Instr denote.Hole.Carrier.out wrapped un_from un_to un_value bin_from bin_to bin_value load_to load_width loaded store_from stored
 a_local_is_set_to_another_type = refl
 
--- also where the value stays on the stack
+-- An i32 local is set to an i64 that stays on the stack.
 a_local_is_left_with_another_type : f_gives (record empty { funcs = code' 0 (i.I64Const (pos 5) ∷ (i.LocalTee 0 ∷ (i.Drop ∷ (num 1 ∷ [])))) ∷ [] }) 25 ≡ Linked ∷ (Trapped ∷ [])
 unfolding out-Instr denote.Hole.Carrier.out wrapped un_from un_to un_value bin_from bin_to bin_value load_to load_width loaded store_from stored
 a_local_is_left_with_another_type = refl
 
--- a mutable i32 global is set to an i64
+-- A mutable i32 global is set to an i64.
 a_global_is_set_to_another_type : f_gives (forty (i.I64Const (pos 5) ∷ (i.GlobalSet 0 ∷ (num 1 ∷ [])))) 25 ≡ Linked ∷ (Trapped ∷ [])
 unfolding out-Instr denote.Hole.Carrier.out wrapped un_from un_to un_value bin_from bin_to bin_value load_to load_width loaded store_from stored
 a_global_is_set_to_another_type = refl
 
--- a table of functions is set to an extern reference
+-- An entry of a table of functions is set to an extern reference.
 a_table_is_set_to_another_type : f_gives (three (gives (num 0 ∷ (i.RefNull reft.Extern ∷ (i.TableSet 0 ∷ (num 1 ∷ [])))))) 25 ≡ Linked ∷ (Trapped ∷ [])
 unfolding out-Instr denote.Hole.Carrier.out wrapped un_from un_to un_value bin_from bin_to bin_value load_to load_width loaded store_from stored
 a_table_is_set_to_another_type = refl
 
--- and filled with one
+-- A table of functions is filled with an extern reference.
 a_table_is_filled_with_another_type : f_gives (three (gives (num 0 ∷ (i.RefNull reft.Extern ∷ (num 1 ∷ (i.TableFill 0 ∷ (num 1 ∷ []))))))) 25 ≡ Linked ∷ (Trapped ∷ [])
 unfolding out-Instr denote.Hole.Carrier.out wrapped un_from un_to un_value bin_from bin_to bin_value load_to load_width loaded store_from stored
 a_table_is_filled_with_another_type = refl
 
--- and is to grow by one: the embedder is not asked
+-- A table of functions is to grow by an extern reference: the embedder is not asked.
 a_table_grows_by_another_type : f_gives (three (gives (i.RefNull reft.Extern ∷ (num 1 ∷ (i.TableGrow 0 ∷ []))))) 25 ≡ Linked ∷ (Trapped ∷ [])
 unfolding out-Instr denote.Hole.Carrier.out wrapped un_from un_to un_value bin_from bin_to bin_value load_to load_width loaded store_from stored
 a_table_grows_by_another_type = refl
 
--- an i64 is stored as an i32
+-- An i64 is stored as an i32.
 a_store_of_another_type : f_gives (page (gives (num 0 ∷ (i.I64Const (pos 5) ∷ (i.Store store.I32Store (by 0) ∷ (num 1 ∷ [])))))) 25 ≡ Linked ∷ (Trapped ∷ [])
 unfolding out-Instr denote.Hole.Carrier.out wrapped un_from un_to un_value bin_from bin_to bin_value load_to load_width loaded store_from stored
 a_store_of_another_type = refl
 
--- an i64 as an address
+-- An i64 is used as an address.
 an_address_of_another_type : f_gives (page (gives (i.I64Const (pos 0) ∷ (i.Load load.I32Load (by 0) ∷ [])))) 25 ≡ Linked ∷ (Trapped ∷ [])
 unfolding out-Instr denote.Hole.Carrier.out wrapped un_from un_to un_value bin_from bin_to bin_value load_to load_width loaded store_from stored
 an_address_of_another_type = refl
 
--- an i64 is passed through a table to a function that takes an i32, and would drop it
+-- An i64 is passed through a table to a function that takes an i32, and would drop it.
 an_indirect_argument_of_another_type : f_gives (three (record empty { funcs = code 0 (i.I64Const (pos 5) ∷ (num 0 ∷ (i.CallIndirect 1 0 ∷ []))) ∷ (code 1 (num 6 ∷ []) ∷ []); elems = record { mode = from_slot 0; ty = reft.Func; items = const.Func 1 ∷ [] } ∷ [] })) 25 ≡ Linked ∷ (Trapped ∷ [])
 unfolding out-Instr denote.Hole.Carrier.out wrapped un_from un_to un_value bin_from bin_to bin_value load_to load_width loaded store_from stored
 an_indirect_argument_of_another_type = refl
 
--- and to such a function by its index
+-- An i64 is passed to a function that takes an i32, called by its index.
 an_unused_argument_of_another_type : f_gives (record empty { funcs = code 0 (i.I64Const (pos 5) ∷ (i.Call 1 ∷ [])) ∷ (code 1 (num 6 ∷ []) ∷ []) }) 25 ≡ Linked ∷ (Trapped ∷ [])
 unfolding out-Instr denote.Hole.Carrier.out wrapped un_from un_to un_value bin_from bin_to bin_value load_to load_width loaded store_from stored
 an_unused_argument_of_another_type = refl
 
--- a function that gives an i32 returns an i64
+-- A function that gives an i32 returns an i64.
 return_gives_another_type : f_gives (gives (i.I64Const (pos 5) ∷ (i.Return ∷ []))) 25 ≡ Linked ∷ (Trapped ∷ [])
 unfolding out-Instr denote.Hole.Carrier.out wrapped un_from un_to un_value bin_from bin_to bin_value load_to load_width loaded store_from stored
 return_gives_another_type = refl
 
--- and branches to its end with one
+-- A function that gives an i32 branches to its end with an i64.
 a_branch_gives_another_type : f_gives (gives (i.I64Const (pos 5) ∷ (i.Br 0 ∷ []))) 25 ≡ Linked ∷ (Trapped ∷ [])
 unfolding out-Instr denote.Hole.Carrier.out wrapped un_from un_to un_value bin_from bin_to bin_value load_to load_width loaded store_from stored
 a_branch_gives_another_type = refl
 
--- and gives one to its caller, which would drop it
+-- A function that gives an i32 gives an i64 to its caller, which would drop it.
 a_called_function_gives_another_type : f_gives (record empty { funcs = code 0 (i.Call 1 ∷ (i.Drop ∷ (num 6 ∷ []))) ∷ (code 0 (i.I64Const (pos 5) ∷ []) ∷ []) }) 25 ≡ Linked ∷ (Trapped ∷ [])
 unfolding out-Instr denote.Hole.Carrier.out wrapped un_from un_to un_value bin_from bin_to bin_value load_to load_width loaded store_from stored
 a_called_function_gives_another_type = refl
 
--- a select between an i32 and an i64
+-- A select chooses between an i32 and an i64.
 a_select_between_two_types : f_gives (gives (num 1 ∷ (i.I64Const (pos 5) ∷ (num 1 ∷ (i.Select ∷ []))))) 25 ≡ Linked ∷ (Trapped ∷ [])
 unfolding out-Instr denote.Hole.Carrier.out wrapped un_from un_to un_value bin_from bin_to bin_value load_to load_width loaded store_from stored
 a_select_between_two_types = refl
 
--- a select of references that names no type
+-- A select that names no type chooses between references.
 a_select_of_references : f_gives (gives (i.RefNull reft.Func ∷ (i.RefNull reft.Func ∷ (num 1 ∷ (i.Select ∷ (i.Drop ∷ (num 6 ∷ []))))))) 25 ≡ Linked ∷ (Trapped ∷ [])
 unfolding out-Instr denote.Hole.Carrier.out wrapped un_from un_to un_value bin_from bin_to bin_value load_to load_width loaded store_from stored
 a_select_of_references = refl

@@ -1,4 +1,5 @@
--- Where imports end and what is read: the definitions by paths and those that compute are one.
+-- Where imports end and which values are read: the definitions by paths agree with those that
+-- compute.
 use Rattle.base_lists.proofs.Common.{◌≡◌, ◌∙◌, ap, subst, refl, ℕ, zero, suc, ◌+◌, ◌-◌, ◌<◌, ◌≤◌, List, [], ◌∷◌, ◌++◌, map, length, arith, Option, Some, None, ◌↔◌, Bool, true, false, cond, option_and_then, slice_get}
 use Rattle.wasm_tree_spec.specs.Prelude.{Globals, Import, GlobalDef, ConstExpr, Module, index_of_export, space_of_export}
 use Rattle.wasm_tree.specs.declared.module.ConstExpr.TheVariants as const

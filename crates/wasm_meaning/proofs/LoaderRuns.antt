@@ -16,14 +16,15 @@ use Rattle.wasm_meaning.proofs.SmallRuns.{f, g, a, b, e, m, i32, to_i32, nothing
 
 -- ---- modules ----
 
--- the slots: one, and an entry that the primary leaves empty
+-- The table of slots has one slot, and an entry that the primary module leaves empty.
 abbrev two_entries : TableType
 two_entries = record { ty = reft.Func; limits = record { min = 2; max = Some 2 } }
 
 abbrev puts : (place func : ℕ) → ElemSeg
 puts place func = record { mode = elem.Active 0 (const.I32 (pos place)); ty = reft.Func; items = const.Func func ∷ [] }
 
--- function 0 is the environment's, function 1 the placeholder; f calls through the slot, g does so after a call of the environment's, and m calls the placeholder
+-- Function 0 is the environment's and function 1 the placeholder; f calls through the slot, g does
+-- so after a call of the environment's function, and m calls the placeholder.
 abbrev primary : Module
 primary = record empty {
   imports = record { «module» = e; field = g; desc = im.Func 0 } ∷ (record { «module» = b; field = g; desc = im.Func 0 } ∷ []);
@@ -33,19 +34,19 @@ primary = record empty {
   elems = puts 0 1 ∷ [];
 }
 
--- its start calls through the slot
+-- A primary module whose start calls through the slot.
 abbrev starting : Module
 starting = record primary { funcs = primary.funcs ++ code 2 (i.Call 2 ∷ (i.Drop ∷ [])) ∷ []; start = Some 5 }
 
--- it imports the slots, and its segments put its functions there
+-- A secondary module that imports the table of slots, and whose segments write its functions there.
 abbrev secondary : List Func → List ElemSeg → Module
 secondary funcs elems = record empty { imports = record { «module» = b; field = a; desc = im.Table two_entries } ∷ []; funcs = funcs; elems = elems }
 
--- what was moved gives 7
+-- The moved function gives 7.
 abbrev moved : Module
 moved = secondary (code 0 (num 7 ∷ []) ∷ []) (puts 0 0 ∷ [])
 
--- what was moved counts its calls
+-- The moved function counts its calls.
 abbrev counting : Module
 counting = record (secondary (code 0 (i.GlobalGet 0 ∷ (num 1 ∷ (i.Bin bin.I32Add ∷ (i.GlobalSet 0 ∷ (i.GlobalGet 0 ∷ []))))) ∷ []) (puts 0 0 ∷ [])) {
   globals = record { ty = record { ty = i32; mutable = true }; init = const.I32 (pos 0) } ∷ [];
@@ -61,7 +62,7 @@ under first second = record {
   view = (f, ex.Func 2) ∷ ((g, ex.Func 3) ∷ ((m, ex.Func 4) ∷ ((a, ex.Table 0) ∷ [])));
 }
 
--- where the environment has the function g of e
+-- The events of a run with an environment that has the function g of e.
 abbrev shown : LoaderWorld → List Move → List Event
 shown w moves = events_loaded w own moves 60
 
@@ -95,7 +96,7 @@ a_start_that_loads_may_trap : shown (under starting (secondary (code 0 (i.Unreac
 unfolding out-Instr denote.Hole.Carrier.out wrapped un_from un_to un_value bin_from bin_to bin_value load_to load_width loaded store_from stored
 a_start_that_loads_may_trap = refl
 
--- at every call of the placeholder the one instance counts on
+-- The secondary module has one instance, which counts on at every call of the placeholder.
 the_secondary_is_instantiated_once : shown (under primary counting) (call m ∷ (call m ∷ [])) ≡ Linked ∷ (number 1 ∷ (number 2 ∷ []))
 unfolding out-Instr denote.Hole.Carrier.out wrapped un_from un_to un_value bin_from bin_to bin_value load_to load_width loaded store_from stored
 the_secondary_is_instantiated_once = refl
@@ -104,7 +105,7 @@ a_secondary_without_functions_leaves_the_placeholder : shown (under primary empt
 unfolding out-Instr denote.Hole.Carrier.out wrapped un_from un_to un_value bin_from bin_to bin_value load_to load_width loaded store_from stored
 a_secondary_without_functions_leaves_the_placeholder = refl
 
--- the second segment is past the end of the table, the first is not
+-- The second segment is past the end of the table, and the first is not.
 what_a_failed_load_wrote_stands : shown (under primary (secondary (code 0 (num 7 ∷ []) ∷ []) (puts 1 0 ∷ (puts 2 0 ∷ [])))) (call f ∷ (Get (Named a) 1 ∷ [])) ≡ Linked ∷ (Trapped ∷ (Got (Function 0) ∷ []))
 unfolding out-Instr denote.Hole.Carrier.out wrapped un_from un_to un_value bin_from bin_to bin_value load_to load_width loaded store_from stored
 what_a_failed_load_wrote_stands = refl
@@ -119,7 +120,7 @@ a_placeholder_of_another_type_is_no_match = refl
 
 -- ---- calls that moves and starts make ----
 
--- its placeholder is what the view's f denotes, and no code calls it
+-- A primary module whose placeholder is the f of the view, and is called by no code.
 abbrev seen_placeholder : Module
 seen_placeholder = record empty {
   imports = record { «module» = b; field = g; desc = im.Func 0 } ∷ [];
@@ -135,32 +136,34 @@ a_move_may_call_a_placeholder : shown (under_view seen_placeholder counting) (ca
 unfolding out-Instr denote.Hole.Carrier.out wrapped un_from un_to un_value bin_from bin_to bin_value load_to load_width loaded store_from stored
 a_move_may_call_a_placeholder = refl
 
--- the placeholder is shown as function 0 before it is loaded; the slot then holds another
+-- The placeholder is shown as function 0 before the load, after which the slot holds another
+-- function.
 a_move_may_invoke_a_placeholder : shown (under_view seen_placeholder counting) (Get (Named a) 0 ∷ (Invoke 0 [] ∷ (Invoke 0 [] ∷ (Get (Named a) 0 ∷ [])))) ≡ Linked ∷ (Got (Function 0) ∷ (number 1 ∷ (number 2 ∷ (Got (Function 1) ∷ []))))
 unfolding out-Instr denote.Hole.Carrier.out wrapped un_from un_to un_value bin_from bin_to bin_value load_to load_width loaded store_from stored
 a_move_may_invoke_a_placeholder = refl
 
--- while a call of the environment's function waits
+-- A move calls a placeholder while a call of the environment's function waits.
 a_move_may_call_a_placeholder_while_another_waits : shown (record (under primary counting) { view = (g, ex.Func 3) ∷ ((f, ex.Func 1) ∷ []) }) (call g ∷ (call f ∷ (Answer (Number 1 ∷ []) ∷ []))) ≡ Linked ∷ (Asked (e, g) to_i32 [] ∷ (number 1 ∷ (number 2 ∷ [])))
 unfolding out-Instr denote.Hole.Carrier.out wrapped un_from un_to un_value bin_from bin_to bin_value load_to load_width loaded store_from stored
 a_move_may_call_a_placeholder_while_another_waits = refl
 
--- while a call waits, a move whose placeholder's secondary fails to load traps alone: the answer goes to the call that waits, which calls the placeholder too
+-- If a call waits, and a move calls a placeholder whose secondary module fails to load, only the
+-- move traps: the answer goes to the call that waits, which calls the placeholder too.
 a_failed_load_traps_the_move_alone : shown (record (under primary (secondary (code 0 (num 7 ∷ []) ∷ []) (puts 2 0 ∷ []))) { view = (g, ex.Func 3) ∷ ((f, ex.Func 1) ∷ []) }) (call g ∷ (call f ∷ (Answer (Number 1 ∷ []) ∷ []))) ≡ Linked ∷ (Asked (e, g) to_i32 [] ∷ (Trapped ∷ (Trapped ∷ [])))
 unfolding out-Instr denote.Hole.Carrier.out wrapped un_from un_to un_value bin_from bin_to bin_value load_to load_width loaded store_from stored
 a_failed_load_traps_the_move_alone = refl
 
--- with a value of another type it is not called, and nothing is loaded
+-- A placeholder is not called with a value of another type, and nothing is loaded.
 a_move_with_other_values_is_not_taken : shown (under_view seen_placeholder counting) (Call f (Number 1 ∷ []) ∷ (call f ∷ [])) ≡ Linked ∷ (BadMove ∷ (number 1 ∷ []))
 unfolding out-Instr denote.Hole.Carrier.out wrapped un_from un_to un_value bin_from bin_to bin_value load_to load_width loaded store_from stored
 a_move_with_other_values_is_not_taken = refl
 
--- a placeholder that is still in its slot after the load traps, whoever calls it
+-- A placeholder that is still in its slot after the load traps, whoever calls it.
 a_placeholder_that_stays_traps_for_a_move : shown (under_view seen_placeholder empty) (call f ∷ (call f ∷ [])) ≡ Linked ∷ (Trapped ∷ (Trapped ∷ []))
 unfolding out-Instr denote.Hole.Carrier.out wrapped un_from un_to un_value bin_from bin_to bin_value load_to load_width loaded store_from stored
 a_placeholder_that_stays_traps_for_a_move = refl
 
--- the start is the placeholder, of type [] to []
+-- A primary module whose start is the placeholder, of type [] to [].
 abbrev placeholder_starts : Module
 placeholder_starts = record seen_placeholder {
   imports = record { «module» = e; field = m; desc = im.Func 2 } ∷ (record { «module» = b; field = g; desc = im.Func 2 } ∷ []);
@@ -172,11 +175,11 @@ placeholder_starts = record seen_placeholder {
 abbrev under_start : Module → LoaderWorld
 under_start second = record { primary = placeholder_starts; secondaries = record { «module» = second; placeholders = ((b, g), nothing) ∷ [] } ∷ []; slot_table = 0; view = (a, ex.Table 0) ∷ [] }
 
--- the environment has the function m of e
+-- An environment with the function m of e.
 abbrev own_nothing : Environment
 own_nothing = record { pair = (e, m); funcs = nothing ∷ []; table = None; memory = None; global = None } ∷ []
 
--- what was moved calls it, by the primary's export
+-- The moved function calls the environment's function, by an export of the primary module.
 abbrev asks_more : Module
 asks_more = record empty {
   imports = record { «module» = b; field = m; desc = im.Func 2 } ∷ (record { «module» = b; field = a; desc = im.Table two_entries } ∷ []);
@@ -194,7 +197,8 @@ a_start_that_stays_a_placeholder_traps = refl
 
 -- ---- several secondaries ----
 
--- function 0 is the placeholder of slot 0 and function 1 that of slot 1; f calls through slot 0, g through slot 1, and m calls the first placeholder itself
+-- Function 0 is the placeholder of slot 0 and function 1 that of slot 1; f calls through slot 0, g
+-- through slot 1, and m calls the first placeholder itself.
 abbrev two_placeholders : Module
 two_placeholders = record empty {
   imports = record { «module» = b; field = f; desc = im.Func 0 } ∷ (record { «module» = b; field = g; desc = im.Func 0 } ∷ []);
@@ -212,7 +216,7 @@ under_two first second = record {
   view = (f, ex.Func 2) ∷ ((g, ex.Func 3) ∷ ((m, ex.Func 4) ∷ ((a, ex.Table 0) ∷ [])));
 }
 
--- what was moved counts its calls from this number on, and fills this slot
+-- The moved function counts its calls from the given number on, and fills the given slot.
 abbrev counting_from : ℕ → ℕ → Module
 counting_from n slot = record (secondary (code 0 (i.GlobalGet 0 ∷ (num 1 ∷ (i.Bin bin.I32Add ∷ (i.GlobalSet 0 ∷ (i.GlobalGet 0 ∷ []))))) ∷ []) (puts slot 0 ∷ [])) {
   globals = record { ty = record { ty = i32; mutable = true }; init = const.I32 (pos n) } ∷ [];
@@ -222,7 +226,7 @@ each_secondary_is_loaded_once_and_alone : shown (under_two (counting_from 10 0) 
 unfolding out-Instr denote.Hole.Carrier.out wrapped un_from un_to un_value bin_from bin_to bin_value load_to load_width loaded store_from stored
 each_secondary_is_loaded_once_and_alone = refl
 
--- a moved function of the first calls through the slot of the second
+-- The moved function of the first secondary module calls through the slot of the second.
 abbrev calls_the_other : Module
 calls_the_other = secondary (code 0 (num 1 ∷ (i.CallIndirect 0 0 ∷ [])) ∷ []) (puts 0 0 ∷ [])
 
@@ -230,7 +234,7 @@ a_secondary_may_load_another : shown (under_two calls_the_other (counting_from 2
 unfolding out-Instr denote.Hole.Carrier.out wrapped un_from un_to un_value bin_from bin_to bin_value load_to load_width loaded store_from stored
 a_secondary_may_load_another = refl
 
--- the first secondary fails to load, and the second is loaded all the same
+-- The first secondary module fails to load, and the second is loaded all the same.
 a_failed_load_leaves_the_others : shown (under_two (secondary (code 0 (num 7 ∷ []) ∷ []) (puts 2 0 ∷ [])) (counting_from 20 1)) (call f ∷ (call g ∷ (call f ∷ []))) ≡ Linked ∷ (Trapped ∷ (number 21 ∷ (Trapped ∷ [])))
 unfolding out-Instr denote.Hole.Carrier.out wrapped un_from un_to un_value bin_from bin_to bin_value load_to load_width loaded store_from stored
 a_failed_load_leaves_the_others = refl

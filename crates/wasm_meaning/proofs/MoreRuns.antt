@@ -1,4 +1,5 @@
--- More small runs, computed: branches with a condition, segments and copies at their bounds, loads and stores of each width, numbers of 64 bits, references.
+-- More small runs, computed: branches with a condition, segments and copies at their bounds, loads
+-- and stores of each width, numbers of 64 bits, and references.
 use Rattle.base_lists.proofs.Common.{◌≡◌, refl, ℕ, List, [], ◌∷◌, Some, None, true, pos, negsuc}
 use Rattle.wasm_tree_spec.specs.Prelude.{Tables, Memories, RefType, ValType, FuncType, MemArg, Instr, LoadOp, ElemMode, DataMode, Module}
 use Rattle.wasm_num.specs.declared.BinOp.TheVariants as bin
@@ -24,48 +25,49 @@ use Rattle.wasm_meaning.proofs.SmallRuns.{f, g, a, b, e, m, i32, nothing, to_not
 abbrev pub i64 : ValType
 i64 = valt.I64
 
--- no alignment is named, and this offset
+-- The immediate of a load or store with this offset and no alignment.
 abbrev pub by : ℕ → MemArg
 by offset = record { align = 0; offset = offset; memory = 0 }
 
--- a module whose one function has this type
+-- A module whose one function has this type.
 abbrev pub typed : FuncType → List Instr → Module
 typed t body = record empty { types = t ∷ []; funcs = code 0 body ∷ [] }
 
 abbrev pub gives_i64 : List Instr → Module
 gives_i64 body = typed (record { params = []; results = i64 ∷ [] }) body
 
--- a memory that begins with the bytes 128, 129, .. 135
+-- A module with a memory that begins with the bytes 128, 129, .. 135.
 abbrev pub eight : Module → Module
 eight x = record (page x) { datas = record { mode = data'.Active 0 (const.I32 (pos 0)); bytes = 128 ∷ (129 ∷ (130 ∷ (131 ∷ (132 ∷ (133 ∷ (134 ∷ (135 ∷ []))))))) } ∷ [] }
 
 abbrev pub loads : LoadOp → ℕ → List Instr
 loads op place = num place ∷ (i.Load op (by 0) ∷ [])
 
--- a memory, and a segment of the bytes 5, 6 and 7
+-- A module with a memory, and a segment of the bytes 5, 6 and 7.
 abbrev pub bytes_in : DataMode → List Instr → Module
 bytes_in mode body = record (page (gives body)) { datas = record { mode = mode; bytes = 5 ∷ (6 ∷ (7 ∷ [])) } ∷ [] }
 
--- at the start of memory 0
+-- The mode of a segment that is written at the start of memory 0.
 abbrev pub at_first : DataMode
 at_first = data'.Active 0 (const.I32 (pos 0))
 
--- a table of three; functions 1 and 2, which add 1 and 2; and a segment of both
+-- A module with a table of three entries, functions 1 and 2, which add 1 and 2, and a segment of
+-- both.
 abbrev pub funcs_in : ElemMode → List Instr → Module
 funcs_in mode body = three (record empty {
   funcs = code 0 body ∷ (code 1 (i.LocalGet 0 ∷ (num 1 ∷ (i.Bin bin.I32Add ∷ []))) ∷ (code 1 (i.LocalGet 0 ∷ (num 2 ∷ (i.Bin bin.I32Add ∷ []))) ∷ []));
   elems = record { mode = mode; ty = reft.Func; items = const.Func 1 ∷ (const.Func 2 ∷ []) } ∷ [];
 })
 
--- in table 0 from here on
+-- The mode of a segment that is written into table 0 from this entry on.
 abbrev pub from_slot : ℕ → ElemMode
 from_slot n = elem.Active 0 (const.I32 (pos n))
 
--- a mutable global that is 40 at first
+-- A module with a mutable global that is 40 at first.
 abbrev pub forty : List Instr → Module
 forty body = record (gives body) { globals = record { ty = record { ty = i32; mutable = true }; init = const.I32 (pos 40) } ∷ [] }
 
--- a start that calls the function g of e with a number
+-- A module whose start calls the function g of e with a number.
 abbrev pub starting : ℕ → Module
 starting n = record {
   types = nothing ∷ (to_nothing ∷ []);
@@ -88,7 +90,7 @@ hearing = record { pair = (e, g); funcs = to_nothing ∷ []; table = None; memor
 
 -- ---- runs ----
 
--- control
+-- Control instructions.
 
 a_branch_if_is_taken : f_gives (gives (i.Block (bt.Value valt.I32) (num 5 ∷ (num 1 ∷ (i.BrIf 0 ∷ (i.Drop ∷ (num 6 ∷ []))))) ∷ [])) 8 ≡ returns (Number 5 ∷ [])
 unfolding wrapped
@@ -186,7 +188,7 @@ a_trap_ends_all_frames : events (plain (record empty { funcs = code 0 (i.Call 1 
 unfolding out-Instr denote.Hole.Carrier.out wrapped un_from un_to un_value bin_from bin_to bin_value load_to load_width loaded store_from stored
 a_trap_ends_all_frames = refl
 
--- references
+-- References.
 
 an_extern_null : f_gives (typed (record { params = []; results = valt.Ref reft.Extern ∷ [] }) (i.RefNull reft.Extern ∷ [])) 25 ≡ returns (Null ∷ [])
 unfolding out-Instr denote.Hole.Carrier.out wrapped un_from un_to un_value bin_from bin_to bin_value load_to load_width loaded store_from stored
@@ -200,7 +202,7 @@ an_extern_is_not_null : events (plain (typed (record { params = valt.Ref reft.Ex
 unfolding out-Instr denote.Hole.Carrier.out wrapped un_from un_to un_value bin_from bin_to bin_value load_to load_width loaded store_from stored
 an_extern_is_not_null = refl
 
--- numbers of 64 bits
+-- Numbers of 64 bits.
 
 an_i64_constant : f_gives (gives_i64 (i.I64Const (negsuc 0) ∷ [])) 25 ≡ returns (Number 18446744073709551615 ∷ [])
 unfolding out-Instr denote.Hole.Carrier.out wrapped un_from un_to un_value bin_from bin_to bin_value load_to load_width loaded store_from stored
@@ -238,7 +240,7 @@ an_i64_quotient_that_is_too_great_traps : f_gives (gives_i64 (i.I64Const (negsuc
 unfolding out-Instr denote.Hole.Carrier.out wrapped un_from un_to un_value bin_from bin_to bin_value load_to load_width loaded store_from stored
 an_i64_quotient_that_is_too_great_traps = refl
 
--- loads
+-- Loads.
 
 load_a_byte_without_sign : f_gives (eight (gives (loads load.I32Load8U 0))) 25 ≡ returns (Number 128 ∷ [])
 unfolding out-Instr denote.Hole.Carrier.out wrapped un_from un_to un_value bin_from bin_to bin_value load_to load_width loaded store_from stored
@@ -320,7 +322,7 @@ a_load_with_its_offset_past_the_bound_traps : f_gives (eight (gives (num 65533 �
 unfolding out-Instr denote.Hole.Carrier.out wrapped un_from un_to un_value bin_from bin_to bin_value load_to load_width loaded store_from stored
 a_load_with_its_offset_past_the_bound_traps = refl
 
--- stores
+-- Stores.
 
 store_the_lowest_byte : f_gives (page (gives (num 0 ∷ (num 511 ∷ (i.Store store.I32Store8 (by 0) ∷ (num 0 ∷ (i.Load load.I32Load (by 0) ∷ []))))))) 25 ≡ returns (Number 255 ∷ [])
 unfolding out-Instr denote.Hole.Carrier.out wrapped un_from un_to un_value bin_from bin_to bin_value load_to load_width loaded store_from stored
@@ -370,7 +372,7 @@ the_offset_of_a_store_does_not_wrap : f_gives (page (gives (i.I32Const (negsuc 0
 unfolding out-Instr denote.Hole.Carrier.out wrapped un_from un_to un_value bin_from bin_to bin_value load_to load_width loaded store_from stored
 the_offset_of_a_store_does_not_wrap = refl
 
--- memories and data segments
+-- Memories and data segments.
 
 memory_init_at_the_last_bounds : f_gives (bytes_in data'.Passive (num 65533 ∷ (num 0 ∷ (num 3 ∷ (i.MemoryInit 0 0 ∷ (num 65535 ∷ (i.Load load.I32Load8U (by 0) ∷ []))))))) 25 ≡ returns (Number 7 ∷ [])
 unfolding out-Instr denote.Hole.Carrier.out wrapped un_from un_to un_value bin_from bin_to bin_value load_to load_width loaded store_from stored
@@ -445,7 +447,7 @@ a_granted_memory_is_longer_and_zero : events (plain (page (gives (num 65532 ∷ 
 unfolding out-Instr denote.Hole.Carrier.out wrapped un_from un_to un_value bin_from bin_to bin_value load_to load_width loaded store_from stored
 a_granted_memory_is_longer_and_zero = refl
 
--- tables and element segments
+-- Tables and element segments.
 
 table_init_copies : f_gives (funcs_in elem.Passive (num 2 ∷ (num 1 ∷ (num 1 ∷ (i.TableInit 0 0 ∷ (num 10 ∷ (num 2 ∷ (i.CallIndirect 1 0 ∷ [])))))))) 30 ≡ returns (Number 12 ∷ [])
 unfolding out-Instr denote.Hole.Carrier.out wrapped un_from un_to un_value bin_from bin_to bin_value load_to load_width loaded store_from stored
@@ -540,13 +542,13 @@ an_element_segment_out_of_bounds : events (plain (funcs_in (from_slot 2) (num 1 
 unfolding out-Instr denote.Hole.Carrier.out wrapped un_from un_to un_value bin_from bin_to bin_value load_to load_width loaded store_from stored
 an_element_segment_out_of_bounds = refl
 
--- starts
+-- Starts.
 
 starts_come_by_part : events two_starts hearing (Answer [] ∷ (Answer [] ∷ [])) 25 ≡ Asked (e, g) to_nothing (Number 1 ∷ []) ∷ (Asked (e, g) to_nothing (Number 2 ∷ []) ∷ (Linked ∷ []))
 unfolding out-Instr denote.Hole.Carrier.out wrapped un_from un_to un_value bin_from bin_to bin_value load_to load_width loaded store_from stored
 starts_come_by_part = refl
 
--- a table of the environment, matched with its size
+-- A table of the environment is matched with its size.
 
 abbrev needs_a_table : ℕ → Module
 needs_a_table n = record (gives (num 1 ∷ [])) { imports = record { «module» = e; field = m; desc = im.Table (record { ty = reft.Func; limits = record { min = n; max = Some 3 } }) } ∷ [] }

@@ -1,8 +1,8 @@
--- What holds of what a part of a step comes to, where it gives something, and outcomes that are related.
+-- Properties of the value of an outcome, if it gives one, and outcomes that are related.
 use Rattle.std.proofs.Common.{◌≡◌, Bool, true, false, cond, Option, Some, None, refl, ap, subst}
 use Rattle.wasm_meaning.specs.Outcomes.{Outcome, Gives, Traps, IllTyped, ResRel, done, trap, wrong, bind, or_trap, or_ill_typed}
 
--- P of what is there
+-- The property P holds of the value, if the outcome gives one.
 pub data AllOf {A : Type 0} (P : A → Type 0) : Outcome A → Type 0 where
   ill_typed : AllOf P IllTyped
   stopped : AllOf P Traps
@@ -18,18 +18,20 @@ pub cond_all : {A : Type 0} {P : A → Type 0} (b : Bool) {x y : Outcome A} → 
 cond_all true p q = p
 cond_all false p q = q
 
--- with what the first came to
+-- A property of what follows an outcome holds if it holds of what follows each value given.
 pub with_is : {A C : Type 0} {Q : C → Type 0} (o : Outcome A) (f : A → Outcome C) → ((a : A) → o ≡ Gives a → AllOf Q (f a)) → AllOf Q (bind o f)
 with_is Traps f h = stopped
 with_is IllTyped f h = ill_typed
 with_is (Gives a) f h = h a refl
 
--- with what was found, where none is ill typed
+-- A property of what follows a look-up holds if it holds of what follows each value found; a
+-- missing value is ill typed.
 pub with_found : {A C : Type 0} {Q : C → Type 0} (o : Option A) (f : A → Outcome C) → ((a : A) → o ≡ Some a → AllOf Q (f a)) → AllOf Q (bind (or_ill_typed o) f)
 with_found None f h = ill_typed
 with_found (Some a) f h = h a refl
 
--- and where none is a trap
+-- A property of what follows a look-up holds if it holds of what follows each value found; a
+-- missing value is a trap.
 pub with_within : {A C : Type 0} {Q : C → Type 0} (o : Option A) (f : A → Outcome C) → ((a : A) → o ≡ Some a → AllOf Q (f a)) → AllOf Q (bind (or_trap o) f)
 with_within None f h = stopped
 with_within (Some a) f h = h a refl
@@ -42,7 +44,7 @@ then_found f e = ap (λ x. bind (or_ill_typed x) f) e
 
 -- ---- related outcomes ----
 
--- what follows one outcome in two ways is related if it is so for each value that the outcome may give
+-- What follows one outcome in two ways is related if what follows each value given is.
 pub bind_same : {A C D : Type 0} {Q : C → D → Type 0} {f : A → Outcome C} {g : A → Outcome D} (o : Outcome A) → ((a : A) → ResRel Q (f a) (g a)) → ResRel Q (bind o f) (bind o g)
 bind_same Traps h = trap
 bind_same IllTyped h = wrong

@@ -10,15 +10,16 @@ use Rattle.wasm_meaning.specs.Prelude.{Number, World, Linked, LinkFault, Instanc
 use Rattle.wasm_meaning.proofs.SmallRuns.{f, g, a, b, e, to_nothing, empty, code, giver, taker, two, returns}
 use Rattle.wasm_meaning.proofs.MoreRuns.{starting, two_starts, hearing}
 
--- the part that is taken from first
+-- A world in which the part that exports comes before the part that imports from it.
 abbrev taken_first : World
 taken_first = record { parts = record { name = Some a; «module» = giver } ∷ (record { name = Some b; «module» = taker } ∷ []); view = (f, record { part = 1; what = ex.Func 1 }) ∷ [] }
 
--- a part with a start, and then one that imports what nobody offers
+-- A world of a part with a start, and then a part that imports what neither a part nor the
+-- environment offers.
 abbrev with_a_fault : World
 with_a_fault = record { parts = record { name = Some a; «module» = starting 1 } ∷ (record { name = Some b; «module» = record empty { imports = record { «module» = f; field = g; desc = im.Func 0 } ∷ [] } } ∷ []); view = [] }
 
--- a start that traps, before another part
+-- A world of a part whose start traps, and then another part.
 abbrev with_a_trap : World
 with_a_trap = record { parts = record { name = Some a; «module» = record empty { funcs = code 2 (i.Unreachable ∷ []) ∷ []; start = Some 0 } } ∷ (record { name = Some b; «module» = starting 2 } ∷ []); view = [] }
 

@@ -21,7 +21,7 @@ use Rattle.wasm_meaning.specs.Access.{load_to, load_width, loaded, store_from, s
 
 -- ---- modules ----
 
--- the names f, g, a, b, e and m
+-- The names f, g, a, b, e and m.
 abbrev pub f : Text
 f = 102 ∷ []
 
@@ -52,21 +52,21 @@ from_i32 = record { params = i32 ∷ []; results = i32 ∷ [] }
 abbrev pub nothing : FuncType
 nothing = record { params = []; results = [] }
 
--- types 0 to 2 are [] to [i32], [i32] to [i32], and [] to []
+-- The types 0 to 2 are [] to [i32], [i32] to [i32], and [] to [].
 abbrev pub empty : Module
 empty = record { types = to_i32 ∷ (from_i32 ∷ (nothing ∷ [])); imports = []; funcs = []; tables = []; mems = []; globals = []; exports = []; start = None; elems = []; datas = [] }
 
 abbrev pub code : ℕ → List Instr → Func
 code ty body = record { ty = ty; locals = []; body = body }
 
--- with one local of type i32
+-- A function with one local of type i32.
 abbrev pub code' : ℕ → List Instr → Func
 code' ty body = record { ty = ty; locals = record { count = 1; ty = i32 } ∷ []; body = body }
 
 abbrev pub num : ℕ → Instr
 num n = i.I32Const (pos n)
 
--- a module whose function 0 gives an i32
+-- A module whose function 0 gives an i32.
 abbrev pub gives : List Instr → Module
 gives body = record empty { funcs = code 0 body ∷ [] }
 
@@ -84,7 +84,7 @@ alone x = record { parts = record { name = None; «module» = x } ∷ []; view =
 abbrev pub plain : Module → World
 plain x = record { parts = record { name = None; «module» = x } ∷ []; view = (f, record { part = 0; what = ex.Func 0 }) ∷ [] }
 
--- a function g of e, of type [] to [i32]
+-- An environment with a function g of e, of type [] to [i32].
 abbrev pub own : Environment
 own = record { pair = (e, g); funcs = to_i32 ∷ []; table = None; memory = None; global = None } ∷ []
 
@@ -100,7 +100,8 @@ returns xs = Linked ∷ (Returned xs ∷ [])
 abbrev pub f_gives : Module → ℕ → List Event
 f_gives x n = events (plain x) [] (Call f [] ∷ []) n
 
--- a exports f, which gives 3, and an immutable global g; b imports both, and its f adds them
+-- The part a exports f, which gives 3, and an immutable global g; the part b imports both, and its
+-- f adds them.
 abbrev pub giver : Module
 giver = record (gives (num 3 ∷ [])) { globals = record { ty = record { ty = i32; mutable = false }; init = const.I32 (pos 40) } ∷ []; exports = record { name = f; desc = ex.Func 0 } ∷ (record { name = g; desc = ex.Global 0 } ∷ []) }
 
@@ -114,7 +115,7 @@ taker = record empty {
 abbrev pub two : Module → World
 two x = record { parts = record { name = Some b; «module» = taker } ∷ (record { name = Some a; «module» = x } ∷ []); view = (f, record { part = 0; what = ex.Func 1 }) ∷ [] }
 
--- a module as a linker leaves one: it logs, and calls through its table
+-- A module as a linker leaves it: it logs, and calls through its table.
 abbrev pub env : Text
 env = 101 ∷ (110 ∷ (118 ∷ []))
 
@@ -142,7 +143,7 @@ linked_by_hand = record {
 abbrev pub logging : Environment
 logging = record { pair = (env, log); funcs = to_nothing ∷ []; table = None; memory = None; global = None } ∷ []
 
--- its constructors, its function, and its memory
+-- The view has the constructors of the module, its function and its memory.
 abbrev pub its_view : World
 its_view = record { parts = record { name = None; «module» = linked_by_hand } ∷ []; view = (g, record { part = 0; what = ex.Func 1 }) ∷ ((f, record { part = 0; what = ex.Func 4 }) ∷ ((m, record { part = 0; what = ex.Memory 0 }) ∷ [])) }
 

@@ -1,4 +1,4 @@
--- A start does not see what it stands on.
+-- A start depends only on its own frames, not on the entries below them.
 use Rattle.base_lists.proofs.Common.{◌≡◌, ℕ, List, [], ◌∷◌, ◌++◌, length, Option, Some, None, Bool, true, false, slice_get, refl, ap, subst, nat_eq, then_same}
 use Rattle.base_lists.specs.Related.{OptRel, none, some}
 use Rattle.base_lists.proofs.Related.{either_rel}
@@ -35,7 +35,7 @@ abbrev waits_host : Outcome (Caller × List Entry) → Bool
 waits_host (Gives w) = by_host w.0
 waits_host _ = false
 
--- where a start is waited for the embedder waits for no call of its own
+-- If the caller is a start, the topmost entry is not the mark of a call of the embedder.
 unmarked : (cs : List Entry) → to_mark cs ≡ Gives (Starter, []) → is_mark cs ≡ false
 unmarked [] e = refl
 unmarked (Running f ∷ es) e = refl
@@ -46,7 +46,7 @@ unmarked (Ended vs ∷ es) e = refl
 unmarked (Growing g ∷ es) e = refl
 
 module _ (cs ds : List Entry) (low : IsBottom cs) (other : IsBottom ds) (p q : Phase) where
-  -- the run with these entries over the one, and over the other
+  -- The two runs that have these entries, with different entries below them.
   abbrev first : Run → List Entry → Run
   first r es = record r { entries = es ++ cs; phase = p }
 
@@ -80,7 +80,7 @@ module _ (cs ds : List Entry) (low : IsBottom cs) (other : IsBottom ds) (p q : P
   give_below s vs (over {e = Ended ws} o g) = wrong
   give_below s vs (over {e = Growing x} o g) = wrong
 
-  -- what the lowest frame gives is nothing
+  -- The lowest frame of a start gives no values.
   ends_lowest : (s : Store) {ts : List ValType} (vs : List Val) → ts ≡ [] → ResRel (NextRel s.funcs) (bind (pop_typed ts vs) (λ w. give s w.0 cs)) (bind (pop_typed ts vs) (λ w. give s w.0 ds))
   ends_lowest s vs n = rw (n, low.gives s, other.gives s) (done (ran_out refl))
 
@@ -137,7 +137,8 @@ module _ (cs ds : List Entry) (low : IsBottom cs) (other : IsBottom ds) (p q : P
 
   -- ---- moves ----
 
-  -- a step of the machine over both, or steps that the runs make
+  -- Two transitions are related if both are steps of the machine with related outcomes, or both
+  -- make outputs that agree.
   data Turn (funcs : List Func) : Transition → Transition → Type 0 where
     steps : {o u : Outcome Next} (r : Run) (es : List Entry) → r.store.funcs ≡ funcs → GivesNothing es → ResRel (NextRel r.store.funcs) o u → Turn funcs (Steps (first r es) o) (Steps (second r es) u)
     makes : {o u : Out} → Alike funcs o u → Turn funcs (Makes o) (Makes u)

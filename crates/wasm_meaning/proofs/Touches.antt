@@ -1,4 +1,5 @@
--- What the step of a frame writes is told from what stands on top before.
+-- The step of a frame writes exactly the places that are computed from the top of the stack before
+-- it.
 use Rattle.base_lists.proofs.Common.{◌≡◌, ◌∙◌, ℕ, ◌+◌, length, List, [], ◌∷◌, None, refl, sym, ap, drop, slice_get, Some, Option, Bool, true, false, cond, nat_eq, copies_length}
 use Rattle.wasm_tree_spec.specs.Prelude.{Instr, out-Instr, StoreOp, ValType, BlockType, store_width}
 use Rattle.wasm_tree.specs.declared.instr.Instr.TheOpen.{Instr-F}
@@ -24,7 +25,7 @@ stored_length op.I64Store16 n = refl
 stored_length op.I64Store32 n = refl
 
 module _ (env : Env) where
-  -- what is told of it
+  -- Each action that an outcome gives writes exactly what `o` says.
   module _ (o : Outcome Touched) where
     abbrev All : Outcome Act → Type 0
     All = AllOf (ActWrites env.store o)

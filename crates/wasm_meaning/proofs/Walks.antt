@@ -1,4 +1,4 @@
--- A walk of enough points finds the end of a path, and no other.
+-- A walk of enough points along a path finds the end of the path, and no other end.
 use Rattle.base_lists.proofs.Common.{◌≡◌, ◌∙◌, ap, subst, refl, ℕ, zero, suc, ◌-◌, ◌<◌, ◌≤◌, List, length, arith, Option, Some, None, ◌↔◌, ◌⊎◌, inl, inr, cases_lt, pigeons, Has}
 use Rattle.wasm_meaning.specs.Prelude.{PathStep, EndsWith, LeadsTo, Path, ends, goes, walk_on, walk}
 use Rattle.wasm_meaning.specs.Paths.{In, here, there}
@@ -17,7 +17,7 @@ module _ {A E : Type 0} (next : A → Option (PathStep A E)) where
       by (Some (EndsWith d)) is more h = let same : d ≡ e = cc in ends (is ∙ ap (λ d. Some (EndsWith d)) same)
       by (Some (LeadsTo b)) is more h = goes is (more b e h)
 
-  -- the path from a has n points after the first
+  -- The path from the point a has exactly n points after the first.
   record Exact (n : ℕ) (a : A) : Type 0 where
     end : E
     enough : walk next (suc n) a ≡ Some end
@@ -53,7 +53,7 @@ module _ {A E : Type 0} (next : A → Option (PathStep A E)) where
       by (inr l) (inl k) = absurd (nothing (later (suc m) n a y.end (omega (arith, k)) y.enough) x.fewer)
       by (inr l) (inr k) = omega (arith, l, k)
 
-  -- the point after so many
+  -- The point that some steps lead to, by the first of these steps.
   abbrev point_on : (A → A) → A → Option (PathStep A E) → A
   point_on more a (Some (LeadsTo b)) = more b
   point_on more a (Some (EndsWith e)) = a

@@ -1,4 +1,4 @@
--- The name list of a file is what it spells.
+-- The name list of a file is the one that the file encodes.
 use Rattle.base_lists.proofs.Common.{◌≡◌, ℕ, ◌<◌, List, [], ◌∷◌, ◌++◌, length, Option, Some, None, Result, Ok, Err, IfOk, Bool, true, false, inl, inr, ⊎_elim, refl, sym, ap, ◌∙◌, subst, arith, ◌==◌, option_and_then, option_to_list, ◌↔◌, and_then_is, bind_ok}
 use Rattle.std.specs.Prelude.{unwrap_or}
 use Rattle.std.specs.Result.{result_ok}
@@ -17,12 +17,12 @@ use Rattle.wasm_names.proofs.NameMaps.{ReadsExactly, map_sound, map_complete}
 use Rattle.wasm_names.proofs.Subsections.{one_map_sound, one_map_complete}
 use Rattle.wasm_names.proofs.NameSections.{first_sound, first_complete}
 
--- what the law says of frames
+-- The law on the frames of files, which the lemmas below use.
 pub record FramesAreDecided : Type 0 where
   pub framed : (bytes : List ℕ) (ss : List Section) → IsBytes bytes → (framed_at bytes ≡ Ok ss) ↔ Framed bytes ss
   pub contents : (bytes : List ℕ) (ss : List Section) → IsBytes bytes → Framed bytes ss → AreBytes ss
 
--- ---- contents are made of bytes
+-- ---- contents consist of bytes
 
 subsections_bytes : (bytes : List ℕ) (ss : List Section) → IsBytes bytes → Each SpellsSubsection bytes ss → AreBytes ss
 subsections_bytes bytes [] small h = tt
@@ -40,11 +40,11 @@ maps_bytes : (ss : List Section) → AreBytes ss → Every IsBytes (func_name_ma
 maps_bytes [] small = tt
 maps_bytes (s ∷ ss) small = map_bytes s ss small.0 (s.0 == 1) refl (maps_bytes ss small.1)
 
--- what stands behind the name is bytes
+-- The content of a name section after its name consists of bytes.
 behind_bytes : (s : Section) (rest : List ℕ) → IsBytes s.1 → IsNameSection s rest → IsBytes rest
 behind_bytes s rest small h = rest_holds (λ n. n < 256) h.1.0 rest (subst IsBytes h.1.2 small)
 
--- ---- what stands behind the name
+-- ---- the content after the name
 
 names_sound : ReadsExactly → (content : List ℕ) (ns : List FuncName) → IsBytes content → names_at content ≡ Ok ns → SpellsNames content ns
 unfolding names_at
@@ -127,12 +127,12 @@ names_law frames reads bytes ns small = (to, back (names_found bytes) refl)
 
 -- ---- calls
 
--- the one list is what is found
+-- The names that are found are any list that is equal to the name list of the file.
 pub only_list : {E : Type 0} (bytes : List ℕ) (ns : List FuncName) (r : Result (List FuncName) E) → IfOk r (λ found. found ≡ name_list bytes) → ns ≡ name_list bytes → IfOk r (λ found. found ≡ ns)
 only_list bytes ns (Ok found) h k = h ∙ sym k
 only_list bytes ns (Err e) h k = tt
 
--- where the frames are these
+-- The name list of a file with these sections.
 list_of_frames : (bytes : List ℕ) (ss : List Section) → framed_at bytes ≡ Ok ss → unwrap_or (option_and_then names_in (first_content ss)) [] ≡ name_list bytes
 unfolding names_found
 list_of_frames bytes ss framed = rw framed refl

@@ -1,4 +1,4 @@
--- What is read as a name map is one.
+-- Reading a name map finds the names that are encoded, and nothing else.
 use Rattle.base_lists.proofs.Common.{◌≡◌, ℕ, zero, suc, ◌+◌, ◌≤◌, List, [], ◌∷◌, ◌++◌, length, Ok, ⊎_elim, sym, ap, ◌∙◌, subst, arith, append-nil, le-ltb, eqb-true, IsStrictlyIncreasing, cond_is, bind_ok, ok_pair, err_ok, within_most}
 use Rattle.std.proofs.lemmas.List.{nil_from_length}
 use Rattle.wasm_bytes.specs.Prelude.{TakesOff, U32, Named, Sized, Vector, IsBytes}
@@ -13,7 +13,7 @@ use Rattle.wasm_names.specs.declared.func_name.FuncName.{FuncName}
 use Rattle.wasm_names.specs.NameList.{SpellsFuncName, SpellsNameMap, indices}
 use Rattle.wasm_names.specs.Reading.{func_name_at, func_names_at, least_after}
 
--- what the law says of reading
+-- The laws on reading numbers, names and sized contents, which the lemmas below use.
 pub record ReadsExactly : Type 0 where
   pub numbers : Exact U32 Any u32_at
   pub names : Exact Named Any name_at

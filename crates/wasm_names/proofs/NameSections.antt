@@ -1,4 +1,4 @@
--- What is found behind the name of the first section called `name` is what stands there.
+-- The content that is found is that of the first custom section named `name`, after its name.
 use Rattle.base_lists.proofs.Common.{◌≡◌, ℕ, ◌+◌, ◌<◌, ◌≤◌, length, drop, get_or, drop-cons, add-one, List, [], ◌∷◌, ◌++◌, Option, Some, None, Result, Ok, Err, true, false, ⊎_elim, refl, sym, ap, ◌∙◌, subst, eqb-true, drop_all, bytes_eq-Decides, Bor, ◌==◌, is_some, bytes_eq, cond_is}
 use Rattle.base_lists.specs.Every.{Every}
 use Rattle.std.specs.Option.{option_or}
@@ -41,7 +41,7 @@ content_none reads s small never = split (content_of_names s) refl
     split None e = e
     split (Some rest) e = absurd (never rest (content_sound reads s rest small e))
 
--- the sections are those before it, the first section called `name`, and those after it
+-- The sections have a first custom section named `name`, and these bytes follow its name.
 pub record HasFirst (ss : List Section) (rest : List ℕ) : Type 0 where
   pub before : List Section
   pub section : Section
@@ -85,7 +85,7 @@ pub first_end : (bytes : List ℕ) (fs : List Place) (i : ℕ) → length fs ≤
 unfolding first_content
 first_end bytes fs i le = rw (drop_all i fs le) refl
 
--- a frame that is called `name` ends the search, and another one does not
+-- A section named `name` ends the search, and any other section does not.
 pub some_first : (bytes : List ℕ) (fs : List Place) (i : ℕ) (d : Place) (o : Option (Bor (List ℕ))) (whole : Option (List ℕ)) → i < length fs → lent_option o ≡ content_of_names (framed bytes (get_or fs i d)) → is_some o ≡ true →
     whole ≡ first_content (framed_all bytes (drop i fs)) → lent_option o ≡ whole
 some_first bytes fs i d None whole lt found some h = cc

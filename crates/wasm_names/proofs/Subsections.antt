@@ -1,4 +1,4 @@
--- What is read of the subsections of a name section is what they spell.
+-- Reading the subsections of a name section finds what they encode, and nothing else.
 use Rattle.base_lists.proofs.Common.{◌≡◌, ◌≢◌, ℕ, zero, suc, ◌≤◌, List, [], ◌∷◌, ◌++◌, length, Option, Some, None, Ok, Err, Bool, true, false, refl, sym, ap, ◌∙◌, subst, arith, append-nil, Bor, ◌==◌, is_some, option_to_list, bind_ok, ok_pair}
 use Rattle.std.proofs.Common.{length-append}
 use Rattle.wasm_bytes.specs.Prelude.{TakesOff, Section, Each, ◌>>=◌, IsBytes}
@@ -13,11 +13,12 @@ use Rattle.wasm_names.specs.NameList.{SpellsSubsection, func_name_maps}
 use Rattle.wasm_names.specs.Reading.{found_after, name_map_at, lent_option}
 use Rattle.wasm_names.proofs.NameMaps.{ReadsExactly}
 
--- the one that is found among those before and those that follow, if there is at most one
+-- The result is the one content that was found before or is among those that follow, if there is
+-- one; there is at most one.
 abbrev pub IsFound : Option (List ℕ) → List (List ℕ) → Option (List ℕ) → Type 0
 IsFound found maps r = option_to_list r ≡ option_to_list found ++ maps
 
--- a subsection of another kind, and one that names functions
+-- A step over one subsection, which names functions or is of another kind.
 found_step : (found next : Option (List ℕ)) (s : Section) (ss : List Section) (r : Option (List ℕ)) → found_after found s ≡ Ok next → IsFound next (func_name_maps ss) r → IsFound found (func_name_maps (s ∷ ss)) r
 found_step found next s ss r = by_kind (s.0 == 1) refl found
   where
@@ -70,7 +71,7 @@ one_map_complete reads (suc fuel) found bytes (s ∷ ss) r enough h k =
 
 -- ---- the loop that reads them
 
--- what is read of all the bytes is read of those that are left, with what was found
+-- The result for all bytes is that for the bytes that are left, with what was found before.
 pub record GoesOn (bytes : List ℕ) (found : Option (List ℕ)) (rest : List ℕ) : Type 0 where
   pub fuel : ℕ
   pub enough : length rest ≤ fuel
@@ -83,7 +84,7 @@ pub ends : (bytes : List ℕ) (found : Option (List ℕ)) (rest : List ℕ) → 
 unfolding name_map_at
 ends bytes found rest none on = on.reads ∙ rw none refl
 
--- a byte that is read is the id of a subsection
+-- The next byte is the id of a subsection.
 step : (fuel : ℕ) (found : Option (List ℕ)) (rest bs : List ℕ) (b : ℕ) → length rest ≤ fuel → byte_at rest ≡ Ok (b, bs) →
     (more : ℕ) × (length bs ≤ more) × (name_map_at fuel found rest ≡ (sized_at bs >>= (λ s. found_after found (b, s.0) >>= (λ next. name_map_at more next s.1))))
 unfolding name_map_at

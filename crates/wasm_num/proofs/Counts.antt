@@ -1,4 +1,4 @@
--- The counts of bits by their formulas are those that std gives.
+-- The counts of bits by their formulas are those of std.
 use Rattle.std.proofs.Common.{◌≡◌, ℕ, zero, suc, ◌+◌, ◌*◌, ◌/◌, ◌%◌, ◌^◌, ◌<◌, ◌≤◌, refl, sym, ap, subst, ◌∙◌, arith, ◌⊎◌, inl, inr}
 use Rattle.std.specs.Prelude.{nat_lt, nat_eq, count_ones, if◌then◌else◌}
 use Rattle.std.specs.Int.Count.{ones_step, count_leading_zeros, leading_unique, count_trailing_zeros, under}
@@ -24,7 +24,7 @@ unfolding trailing count_trailing_zeros
 trailing_is zero n = refl
 trailing_is (suc k) n = trailing_digit (n % 2) _ _ (trailing_is k (n / 2))
 
--- so many zeros are above a number that has m digits
+-- A number n of k bits has exactly r leading zeros.
 record Above (k n r : ℕ) : Type 0 where
   digits : ℕ
   together : r + digits ≡ k

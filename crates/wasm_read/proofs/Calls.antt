@@ -1,4 +1,4 @@
--- What a call gave, of which the result is that of reading.
+-- The meaning of the result of a call, which is that of the reading function.
 use Rattle.base_lists.proofs.Common.{◌≡◌, ℕ, List, Bool, true, false, Some, Result, Ok, Err, IfOk, IsTrue, ◌⊎◌, inl, inr, ⊎_elim, refl, sym, ap, ◌∙◌, subst, IfErr, ◌↔◌}
 use Rattle.wasm_bytes.specs.Prelude.{IsBytes}
 use Rattle.wasm_tree_spec.specs.Prelude.{Module, IsBounded, memory_zero_funcs}
@@ -17,7 +17,7 @@ fault_is (MalformedBody f) r h = inr h
 fault_is (Unsupported s f) r h = inr h
 fault_is (Limit w) r h = inr h
 
--- a tree is read exactly where it is spelled within the limits
+-- The lemmas below use the law that a tree is read exactly if it is encoded and within the limits.
 module _ (files : (many : Bool) (bytes : List ℕ) (m : Module) → IsBytes bytes → (read_at many bytes ≡ Ok m) ↔ (Spells bytes m many × Within bytes many)) (many : Bool) (bytes : List ℕ) (small : IsBytes bytes) where
   pub call_found : (r : Result Module ReadFault) → FileGivesAll r (read_at many bytes) → IfOk r (λ m. Spells bytes m many × Within bytes many)
   call_found (Ok m) g = (files many bytes m small).0 g
@@ -36,7 +36,7 @@ module _ (many : Bool) (bytes : List ℕ) where
   call_first (Ok q) g e h = absurd (let t = sym g ∙ told (read_at many bytes) e h in cc)
   call_first (Err w) g e h = ⊎_elim (λ n. inr (ap Err n)) (λ n. inl (sym n ∙ told (read_at many bytes) e h)) (fault_is w (read_at many bytes) g)
 
--- ---- what is known besides of a tree that is found
+-- ---- further properties of a tree that is found
 
 pub found_bounded : ((many : Bool) (bytes : List ℕ) (m : Module) → Spells bytes m many → Within bytes many → IsBounded m) →
     (bytes : List ℕ) (r : Result Module ReadFault) → IfOk r (λ m. Spells bytes m false × Within bytes false) → IfOk r (λ m. IsBounded m)
@@ -48,7 +48,7 @@ pub found_zero : ((bytes : List ℕ) (m : Module) → Spells bytes m false → m
 found_zero law bytes (Ok m) h = law bytes m h.0
 found_zero law bytes (Err e) h = tt
 
--- a fault is answered exactly where its cause holds
+-- A fault is returned exactly if the bytes have its cause, except if memory ran out.
 pub told_by : (bytes : List ℕ) (r : Result Module ReadFault) → IsBytes bytes → ((bytes : List ℕ) (many : Bool) (e : ReadFault) → IsBytes bytes → (read_fault bytes many ≡ Some e) ↔ Cause bytes many e) →
     FileGivesAll r (read_at false bytes) → (e : ReadFault) → (e ≡ NoMemory → ⊥) → Told r e (Cause bytes false e)
 told_by bytes r small law gives e some = (

@@ -1,4 +1,4 @@
--- Steps of the loops over frames and functions.
+-- The steps of the loops over frames and functions.
 use Rattle.base_lists.proofs.Common.{◌≡◌, ℕ, zero, suc, ◌+◌, ◌<◌, ◌≤◌, List, [], ◌∷◌, length, drop, set, get_or, slice_get, slice_index, Bool, Result, Ok, Some, refl, sym, ap, ◌∙◌, subst, arith, add-one, drop_all}
 use Rattle.wasm_bytes.specs.declared.framing.Frame.{Frame as Place}
 use Rattle.wasm_bytes.specs.Prelude.{◌>>=◌, framed, framed_all}
@@ -43,7 +43,7 @@ module _ (many : Bool) (bytes : List ℕ) (fs : List Place) (whole : Result Part
 
 -- ---- types of functions
 
--- the first i functions with their types
+-- The functions, of which the first `i` have their types.
 pub partly : List ℕ → List Func → ℕ → List Func
 partly ts fs zero = fs
 partly [] fs (suc i) = fs

@@ -1,4 +1,4 @@
--- Reading of a block, and of a sequence with a fault, step by step.
+-- Blocks, and sequences with a fault, are read step by step.
 use Rattle.base_lists.proofs.Common.{◌≡◌, ℕ, zero, suc, ◌-◌, ◌<◌, ◌≤◌, List, [], ◌∷◌, ◌++◌, length, Ok, Err, Bool, refl, sym, ap, arith, append_assoc}
 use Rattle.wasm_bytes.specs.Prelude.{◌>>=◌}
 use Rattle.wasm_tree_spec.specs.Prelude.{BlockType, Instr, Nesting}

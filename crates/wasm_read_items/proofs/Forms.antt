@@ -19,7 +19,7 @@ from_local_get (suc (suc (suc (suc (suc (suc (suc n))))))) h = absurd (omega ari
 pub variable_form : (b : ℕ) → 0x20 ≤ b → b ≤ 0x26 → the_form b ≡ rest_form b
 variable_form b least most = let same : (b - 0x20) + 0x20 ≡ b = omega arith in subst (λ m. the_form m ≡ rest_form m) same (from_local_get (b - 0x20) (omega arith))
 
--- the token that begins with such an opcode
+-- A token that begins with such an opcode is read by the form of this opcode.
 pub variable_token : (many : Bool) (bs rest : List ℕ) (b : ℕ) → 0x20 ≤ b → b ≤ 0x26 → byte_at bs ≡ Ok (b, rest) → token_at many bs ≡ token_of many (rest_form b) rest
 unfolding token_at
 variable_token many bs rest b least most e = rw e (ap (λ f. token_of many f rest) (variable_form b least most))

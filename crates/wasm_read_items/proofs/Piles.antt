@@ -1,4 +1,4 @@
--- What is known of a token that was told, and which code names data segments.
+-- The token that a call reports, and whether code names data segments.
 use Rattle.base_lists.proofs.Common.{◌≡◌, ℕ, Bool, ◌||◌, List, [], ◌++◌, Option, Some, None, Result, Ok, Err, sym, ap, ◌∙◌, or-false, or_assoc, list_any-append}
 use Rattle.wasm_tree_spec.specs.Prelude.{BlockType, Instr, out-Instr, Block, Loop, If, outs-Block, outs-Loop, outs-If, names_data, uses_data_in, uses_data, operands, operands_of, block_operands, held, AnyInside}
 use Rattle.wasm_tree.specs.declared.types.BlockType.TheVariants as block
@@ -11,7 +11,7 @@ use Rattle.wasm_read_spec.proofs.Loops.{fails_through}
 use Rattle.wasm_read_items.specs.declared.pile.Pile.{Pile}
 use Rattle.wasm_read_items.specs.Piled.{with_instr, piled}
 
--- ---- the token of which was told
+-- ---- the token that was reported
 
 abbrev number : Option (Pile × List ℕ) → ℕ
 number None = 0
@@ -32,16 +32,17 @@ told_plain p q rest (Ok (Else, after)) h = absurd (let e : 0 ≡ 1 = ap number h
 told_plain p q rest (Ok (End, after)) h = absurd (let e : 0 ≡ 1 = ap number h in cc)
 told_plain p q rest (Err e) h = absurd (let e : 0 ≡ 1 = ap number h in cc)
 
--- of a token that opens a block, where the block's type was read
+-- A token that opens a block is read if the type of the block is.
 pub told_open : (k : Opener) (ty : BlockType) (bs rest : List ℕ) (r : Result (Token × List ℕ) Fault) → r ≡ mapped_at (λ t. Open k t) block_type_at bs → block_type_at bs ≡ Ok (ty, rest) → r ≡ Ok (Open k ty, rest)
 told_open k ty bs rest r h e = h ∙ rw e
 
 pub told_open_fails : (k : Opener) (e : Fault) (bs : List ℕ) (r : Result (Token × List ℕ) Fault) → r ≡ mapped_at (λ t. Open k t) block_type_at bs → Fails e (block_type_at bs) → Fails e r
 told_open_fails k e bs r h bad = rw h (fails_through e (block_type_at bs) _ bad)
 
--- ---- whether one names a data segment, of those before and of these
+-- ---- whether an instruction names a data segment
 
--- an instruction with the operands of a block's type names one where what it holds does
+-- An instruction with only the operands of a block type names a data segment exactly if the
+-- instructions that it holds do.
 enclosing : AnyInside → (ty : BlockType) (i : Instr) (is : List Instr) → operands_of i ≡ block_operands ty → held (out-Instr i) ≡ is → uses_data_in i ≡ uses_data is
 enclosing any block.Empty i is own inner = any names_data i ∙ rw (own, inner)
 enclosing any (block.Value t) i is own inner = any names_data i ∙ rw (own, inner)

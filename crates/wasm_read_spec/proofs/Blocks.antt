@@ -1,4 +1,4 @@
--- Reading of blocks and sequences, step by step.
+-- Blocks and sequences are read step by step.
 use Rattle.base_lists.proofs.Common.{◌≡◌, ℕ, zero, suc, ◌<◌, ◌≤◌, List, [], ◌∷◌, ◌++◌, length, Ok, Err, true, false, Bool, refl, sym, ap, arith, append_assoc}
 use Rattle.wasm_tree_spec.specs.Prelude.{BlockType, Instr}
 use Rattle.wasm_read_spec.specs.declared.token.Opener.{Opener}

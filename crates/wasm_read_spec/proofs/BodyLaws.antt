@@ -1,4 +1,4 @@
--- Reading a sequence finds the tree that the tokens nest to, and nothing else.
+-- Reading a sequence finds the instructions that its tokens encode, and nothing else.
 use Rattle.base_lists.proofs.Common.{◌≡◌, ℕ, zero, suc, ◌<◌, ◌≤◌, List, [], ◌∷◌, ◌++◌, length, Ok, Err, Bool, true, false, cond, refl, sym, ap, ◌∙◌, subst, arith, append_assoc, append-nil, inl, inr, ⊎_elim, ◌⊎◌, eqb-suc-zero, bind_ok, ok_pair, err_ok}
 use Rattle.std.proofs.Common.{length-append}
 use Rattle.wasm_bytes.specs.Prelude.{TakesOff, Then, Each, IsBytes}
@@ -17,7 +17,7 @@ use Rattle.wasm_read_spec.proofs.TokenLaws.{token_sound, token_complete}
 use Rattle.wasm_read_spec.proofs.Leaves.{of_token, flat}
 use Rattle.wasm_read_spec.proofs.Blocks.{behind_none, behind_behind, seq_end, seq_else, seq_plain, seq_open}
 
--- tokens that nest to a tree with so many blocks open at once at most
+-- The tokens encode the instructions, with at most `d` blocks open at once.
 pub data NestsIn : ℕ → List Token → List Instr → Type 0 where
   no_more : {d : ℕ} → NestsIn d [] []
   one_plain : {d : ℕ} {ts : List Token} {is : List Instr} → (i : Instr) → depth_of i ≤ d → NestsIn d ts is → NestsIn d (Plain i ∷ ts) (i ∷ is)
@@ -50,7 +50,7 @@ module _ (many : Bool) where
   four : (a b c : List Token) → ((a ++ Else ∷ []) ++ (b ++ End ∷ [])) ++ c ≡ a ++ Else ∷ (b ++ End ∷ c)
   four a b c = simp append_assoc
 
-  -- ---- what is spelled is read
+  -- ---- what is encoded is read
 
   abbrev pub Reads : ℕ → List ℕ → List Instr → List ℕ → Type 0
   Reads d text is tail = (n : ℕ) → length (text ++ tail) ≤ n → (m : ℕ) × (length tail ≤ m) × (sequence_at many n d (text ++ tail) ≡ behind is (sequence_at many m d tail))
@@ -67,7 +67,8 @@ module _ (many : Bool) where
       let q = r n enough in
       q.2 ∙ ap (behind is) (seq_else many d q.0 (last ++ rest) rest q.1 (token_complete many last Else rest s)) ∙ rw append-nil
 
-  -- a block, of which inside reads to i and leaves after, and then the rest of the sequence
+  -- A sequence is read that begins with a block: the block is read, and then the rest of the
+  -- sequence.
   with_block : (d : ℕ) (k : Opener) (ty : BlockType) (i : Instr) (is : List Instr) (text front inside after_text tail : List ℕ) →
       SpellsToken many front (Open k ty) → text ++ tail ≡ front ++ (inside ++ (after_text ++ tail)) →
       ((f : ℕ) → length (inside ++ (after_text ++ tail)) ≤ f → block_at (sequence_at many f) d k ty (inside ++ (after_text ++ tail)) ≡ Ok (i, after_text ++ tail)) →
@@ -147,17 +148,19 @@ module _ (many : Bool) where
       ) in
       with_block (suc d) opener.If ty (If ty body otherwise) is text h.0 (s.0 ++ (v.0 ++ (o.0 ++ w.0))) w.1 tail h.2 (regroup2 text h.0 h.1 s.0 s.1 v.0 v.1 o.0 o.1 w.0 w.1 tail h.4 s.4 v.4 o.4 w.4) block (sequence_complete r w.1 tail w.3) n enough
 
-  -- ---- what is read is spelled
+  -- ---- what is read is encoded
 
   abbrev pub ender : Bool → Token
   ender true = Else
   ender false = End
 
-  -- the bytes begin with tokens that nest to the items, and with the token that ends them
+  -- The bytes begin with tokens that encode the items, and the token that ends the sequence
+  -- follows.
   abbrev pub Found : ℕ → List ℕ → Sequence → List ℕ → Type 0
   Found d bytes s rest = (ts : List Token) × NestsIn d ts s.items × TakesOff (λ text. Each (SpellsToken many) text (ts ++ ender s.by_else ∷ [])) bytes rest
 
-  -- the bytes begin with tokens that with an opening one before them are the instruction, whatever follows
+  -- The bytes begin with tokens that encode the instruction together with the token that opens it,
+  -- whatever follows them.
   abbrev pub Node : ℕ → Opener → BlockType → Instr → List ℕ → List ℕ → Type 0
   Node d k ty i bytes rest = (mid : List Token) × ((ts : List Token) (is : List Instr) → NestsIn d ts is → NestsIn d (Open k ty ∷ (mid ++ ts)) (i ∷ is)) × TakesOff (λ text. Each (SpellsToken many) text mid) bytes rest
 
@@ -173,7 +176,7 @@ module _ (many : Bool) where
   armed true x y z e = inl (refl, e)
   armed false x y z e = inr (refl, e)
 
-  -- the tokens and the end
+  -- The bytes begin with the tokens of the sequence and the token that ends it.
   pub ended : (d : ℕ) (bytes : List ℕ) (s : Sequence) (rest : List ℕ) (b : Bool) (f : Found d bytes s rest) → s.by_else ≡ b → TakesOff (λ text. Each (SpellsToken many) text (f.0 ++ ender b ∷ [])) bytes rest
   ended d bytes s rest b f e = subst (λ c. TakesOff (λ text. Each (SpellsToken many) text (f.0 ++ ender c ∷ [])) bytes rest) e f.2
 
@@ -255,7 +258,7 @@ module _ (many : Bool) where
   ended_all s [] is e = ⊎_elim (λ a. absurd (err_ok Malformed _ a.1)) (λ a. (a.0, refl, let same : s.items ≡ is = let k = a.1 in cc in same)) (armed s.by_else _ _ _ e)
   ended_all s (b ∷ bs) is e = ⊎_elim (λ a. absurd (err_ok Malformed _ a.1)) (λ a. let bad = rw (eqb-suc-zero (length bs)) at a.1 in absurd (err_ok Malformed is bad)) (armed s.by_else _ _ _ e)
 
-  -- a body with its last end, with so many blocks open at once at most
+  -- The bytes encode a body with its last end and with at most `d` blocks open at once.
   abbrev pub BodyIn : ℕ → List ℕ → List Instr → Type 0
   BodyIn d bytes is = (ts : List Token) × NestsIn d ts is × Each (SpellsToken many) bytes (ts ++ End ∷ [])
 
@@ -269,7 +272,7 @@ module _ (many : Bool) where
       let all : bytes ≡ t.0 = t.2 ∙ ap (λ xs. t.0 ++ xs) w.1 ∙ append-nil t.0 in
       (f.0, subst (NestsIn (limit Nesting) f.0) w.2 f.1, subst (λ x. Each (SpellsToken many) x (f.0 ++ End ∷ [])) (sym all) t.1)
 
-  -- a spelled body is read, whatever follows it
+  -- An encoded body is read, whatever follows it.
   pub body_reads : (d : ℕ) (bytes rest : List ℕ) (is : List Instr) → BodyIn d bytes is → sequence_at many (length (bytes ++ rest)) d (bytes ++ rest) ≡ Ok (record { items = is; by_else = false }, rest)
   body_reads d bytes rest is h =
       let s = tokens_split h.0 (End ∷ []) bytes h.2 in

@@ -1,4 +1,5 @@
--- Reading a body tells the stops of its bytes, and no others; and so does reading what is inside an entry.
+-- Reading a body reports the stops of its bytes, and no others; so does reading the content of a
+-- code entry.
 use Rattle.base_lists.proofs.Common.{◌≡◌, ℕ, zero, suc, ◌≤◌, List, [], ◌∷◌, ◌++◌, length, Result, Ok, Err, Bool, true, false, cond, ◌⊎◌, inl, inr, ⊎_elim, refl, sym, ap, ◌∙◌, subst, arith, append_assoc, ◌==◌, cond_is}
 use Rattle.std.proofs.Common.{length-append}
 use Rattle.wasm_bytes.specs.Prelude.{TakesOff, Then, Each, ◌>>=◌, IsBytes}
@@ -42,7 +43,7 @@ from_leave_in (behind_else ty n m r) = let a = from_in n in let b = from_in m in
 leave_as : (d e : ℕ) (a b : List Token) → a ≡ b → LeaveIn d a e → LeaveIn d b e
 leave_as d e a b same h = subst (λ z. LeaveIn d z e) same h
 
--- behind tokens that make one instruction more
+-- A sequence is left open in the same way after the tokens of one more instruction.
 further : {d e : ℕ} {ts : List Token} (front : List Token) (i : Instr) → ((ts : List Token) (is : List Instr) → NestsIn d ts is → NestsIn d (front ++ ts) (i ∷ is)) → LeaveIn d ts e → LeaveIn d (front ++ ts) e
 further front i g (nests n) = nests (g _ _ n)
 further front i g (inside {d = d} {e = e} {ts = ts} {us = us} k ty n r) =
@@ -54,11 +55,11 @@ module _ (many : Bool) where
   abbrev Tokens : List Token → List ℕ → Type 0
   Tokens ts text = Each (SpellsToken many) text ts
 
-  -- with tokens by their depth
+  -- The stops of a body, with the depth of the tokens before the stop.
   abbrev StopsIn : ℕ → Stop → List ℕ → Type 0
   StopsIn d s bytes = (ts : List Token) × (e : ℕ) × LeaveIn d ts e × Then (Tokens ts) (λ b. TokenStops s b ⊎ NestingStops many e s b) bytes
 
-  -- ---- a fault that is read is a misspelling or a stop
+  -- ---- a fault that is read is a malformed part or a stop
 
   behind_err : (a : List Instr) (r : ReadResult Sequence) (e : Fault) → behind a r ≡ Err e → r ≡ Err e
   behind_err a (Ok p) e h = cc
@@ -82,15 +83,15 @@ module _ (many : Bool) where
   join_tokens : (a b : List Token) (Q : List ℕ → Type 0) (bytes rest : List ℕ) → TakesOff (Tokens a) bytes rest → Then (Tokens b) Q rest → Then (Tokens (a ++ b)) Q bytes
   join_tokens a b Q bytes rest t h = (t.0 ++ h.0, h.1, tokens_join many a b t.0 h.0 t.1 h.2, h.3, t.2 ∙ ap (λ z. t.0 ++ z) h.4 ∙ sym (append_assoc t.0 h.0 h.1))
 
-  -- behind an instruction
+  -- A stop is also one after the tokens of one more instruction.
   carried : (d : ℕ) (front : List Token) (i : Instr) → ((ts : List Token) (is : List Instr) → NestsIn d ts is → NestsIn d (front ++ ts) (i ∷ is)) → (bytes rest : List ℕ) (s : Stop) → TakesOff (Tokens front) bytes rest → StopsIn d s rest → StopsIn d s bytes
   carried d front i g bytes rest s t h = (front ++ h.0, h.1, further front i g h.2, join_tokens front h.0 _ bytes rest t h.3)
 
-  -- inside a block
+  -- A stop inside a block is one of the sequence that begins with the block.
   entered : (d : ℕ) (k : Opener) (ty : BlockType) (bytes rest : List ℕ) (s : Stop) → TakesOff (λ x. SpellsToken many x (Open k ty)) bytes rest → StopsIn d s rest → StopsIn (suc d) s bytes
   entered d k ty bytes rest s t h = (Open k ty ∷ h.0, h.1, inside k ty no_more h.2, join_tokens (Open k ty ∷ []) h.0 _ bytes rest (one_token many (Open k ty) bytes rest t) h.3)
 
-  -- behind the else of an if
+  -- A stop after the `else` of an `if` is one of the sequence that begins with the `if`.
   entered_else : (d : ℕ) (ty : BlockType) (bytes mid rest : List ℕ) (arm : List Token) (js : List Instr) (s : Stop) → TakesOff (λ x. SpellsToken many x (Open opener.If ty)) bytes mid → NestsIn d arm js → TakesOff (Tokens (arm ++ Else ∷ [])) mid rest → StopsIn d s rest → StopsIn (suc d) s bytes
   entered_else d ty bytes mid rest arm js s t n u h =
       let first = one_token many (Open opener.If ty) bytes mid t in
@@ -150,7 +151,7 @@ module _ (many : Bool) where
 
   -- ---- a stop is read as its fault
 
-  -- where reading has the fuel, of a block that is opened
+  -- Reading reports the stop if it has enough fuel.
   abbrev Meets : ℕ → List ℕ → Stop → Type 0
   Meets d bytes s = (n : ℕ) → length bytes ≤ n → sequence_at many n d bytes ≡ Err (fault_of s)
 
@@ -170,13 +171,13 @@ module _ (many : Bool) where
   here_met : (d : ℕ) (bytes : List ℕ) (s : Stop) → TokenStops s bytes ⊎ NestingStops many d s bytes → Meets d bytes s
   here_met d bytes s h = ⊎_elim (token_met d bytes s) (nesting_met d bytes s) h
 
-  -- behind a token that opens a block
+  -- A stop inside a block is reported after the token that opens the block.
   opened_met : (d : ℕ) (k : Opener) (ty : BlockType) (text rest : List ℕ) (s : Stop) → SpellsToken many text (Open k ty) → ((n : ℕ) → length rest ≤ n → (sequence_at many n d rest >>= enclosed k ty (sequence_at many n d)) ≡ Err (fault_of s)) → Meets (suc d) (text ++ rest) s
   unfolding sequence_at block_at
   opened_met d k ty text rest s t h zero enough = let l = length-append text rest in let p = long many text (Open k ty) t in absurd (omega (arith, enough, l, p))
   opened_met d k ty text rest s t h (suc n) enough = let l = length-append text rest in let p = long many text (Open k ty) t in rw (token_complete many text (Open k ty) rest t, h n (omega (arith, enough, l, p)))
 
-  -- behind tokens that nest
+  -- A stop is reported after the tokens of complete instructions.
   nested_met : (d : ℕ) (ts : List Token) (is : List Instr) (front back : List ℕ) (s : Stop) → NestsIn d ts is → Tokens ts front → Meets d back s → Meets d (front ++ back) s
   nested_met d ts is front back s n t h m enough =
       let r = sequence_complete many n front back t m enough in

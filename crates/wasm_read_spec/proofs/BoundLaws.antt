@@ -1,4 +1,5 @@
--- What is read is bounded, and names no memory but memory 0 where memories have no indices.
+-- Encoded trees are within the limits, and name no memory other than memory 0 where memories have
+-- no indices.
 use Rattle.base_lists.proofs.Common.{◌≡◌, ℕ, ◌≤◌, List, [], ◌∷◌, map, length, slice_get, Bool, true, false, Option, Some, None, refl, arith, rules, ◌==◌, and_parts, length-map, every_at, filter_map_most}
 use Rattle.std.proofs.Common.{length-append}
 use Rattle.wasm_bytes.specs.Prelude.{Each, Section}
@@ -12,7 +13,7 @@ use Rattle.wasm_read_spec.specs.Prelude.{with_datas, with_count, SpellsCustom, S
 use Rattle.wasm_read_spec.specs.Files.{section_form, small_form}
 use Rattle.wasm_read_spec.proofs.NestLaws.{body_zero}
 
--- each list of the parts is within its limit
+-- Each list of the parts is within its limit.
 pub record Small (p : Parts) : Type 0 where
   pub types : Few (limit Types) SmallFuncType p.types
   pub imports : length p.imports ≤ limit Imports
@@ -25,7 +26,7 @@ pub record Small (p : Parts) : Type 0 where
   pub codes : Few (limit Functions) HasSmallCode p.codes
   pub datas : length p.datas ≤ limit DataSegments
 
--- the sections keep what is known of the parts
+-- Encoded contents within the limits lead only to parts with this property.
 record Keeps (K : Parts → Type 0) (P : List ℕ → Parts → Type 0) (S : List ℕ → Type 0) : Type 0 where
   keep : (c : List ℕ) (q : Parts) → P c q → S c → K q
 
@@ -34,7 +35,7 @@ module _ {K : Parts → Type 0} where
   keep_when true a b = a
   keep_when false a b = b
 
-  -- where the value is small, what is put keeps it
+  -- A section that puts a small value into the parts keeps the property.
   keep_put : {A : Type 0} {P : List ℕ → A → Type 0} {S : A → Type 0} (make : A → Parts) → ((x : A) → S x → K (make x)) → Keeps K (MadeFrom make P) (Limited P S)
   keep_put make keep = record { keep = λ c q h s. rw h.2 (keep h.0 (s h.0 h.1)) }
 
@@ -47,7 +48,7 @@ module _ {K : Parts → Type 0} where
   keep_never : Keeps K Never Any
   keep_never = record { keep = λ c q h s. absurd h }
 
--- what has small codes as codes has them as functions
+-- Code entries within the limits give functions within the limits.
 small_untyped : (cs : List CodeEntry) → Few (limit Functions) SmallCode cs → Few (limit Functions) HasSmallCode (map untyped cs)
 small_untyped cs h = (rw (length-map cs untyped) h.0, each cs h.1)
   where
@@ -120,7 +121,7 @@ tree_bounded many bytes m h k = rw h.5 (bounded_parts h.1 (small_contents many n
 abbrev Zeros : Parts → Type 0
 Zeros p = memory_zero_funcs p.codes ≡ true
 
--- without limits
+-- Encoded contents lead only to parts with this property, whatever the limits are.
 record Keeps' (K : Parts → Type 0) (P : List ℕ → Parts → Type 0) : Type 0 where
   keep : (c : List ℕ) (q : Parts) → P c q → K q
 

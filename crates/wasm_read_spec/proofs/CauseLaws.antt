@@ -1,4 +1,4 @@
--- The first fault of a file is that which has its cause.
+-- The first fault of a file is the fault whose cause the bytes have.
 use Rattle.base_lists.proofs.Common.{◌≡◌, ℕ, suc, ◌+◌, ◌<◌, List, [], ◌∷◌, ◌++◌, length, Result, Ok, Err, Bool, true, false, cond, Option, Some, None, ◌⊎◌, inl, inr, ⊎_elim, refl, sym, ap, ◌∙◌, subst, arith, cases_Bool, ◌↔◌, cond_is}
 use Rattle.base_lists.specs.Every.{Every}
 use Rattle.wasm_bytes.specs.Prelude.{IsBytes, Section, Framed, FramesAreRead}
@@ -33,12 +33,12 @@ contents_met many (t ∷ front) n p q s back e h k bad =
     let same : n + suc (length front) ≡ (n + 1) + length front = omega arith in
     rw one (contents_met many front (n + 1) h.0 q s back e h.2 k.1 (rw (← same) bad))
 
--- what is spelled is not malformed
+-- Reading of an encoded value has no fault other than that of a limit.
 not_malformed : {A E : Type 0} (over : Which → E) (e : E) (r : Result A E) (x : A) → ((w : Which) → over w ≡ e → ⊥) → Got over r x → r ≡ Err e → ⊥
 not_malformed over e r x never (inl is) bad = ok_err x e (sym is ∙ bad)
 not_malformed {A} over e r x never (inr is) bad = never is.0 (same_err {A = A} _ _ (sym is.1 ∙ bad))
 
--- the first section that is not read
+-- The first section that is not read, with the parts from the sections before it.
 record Stopped (many : Bool) (n : ℕ) (p : Parts) (ss : List Section) (e : ReadFault) : Type 0 where
   front : List Section
   here : Section
@@ -79,7 +79,7 @@ module _ (reads : FramesAreRead) (bytes : List ℕ) (many : Bool) (small : IsByt
       let here : section_at many (0 + length u.front) p s ≡ Err e = (let k : 0 + length u.front ≡ n = omega (arith, u.number) in rw k h) in
       read_err e (rw (framed_reads reads bytes (u.front ++ s ∷ u.back) u.framed, contents_met many u.front 0 nothing p s u.back e u.spelled u.within here))
 
-  -- the content of a section is made of bytes
+  -- The content of a section consists of bytes.
   here_bytes : (n : ℕ) (s : Section) (p : Parts) → UpTo bytes many n s p → IsBytes s.1
   here_bytes n s p u = at u.front (framed_bytes bytes (u.front ++ s ∷ u.back) small u.framed)
     where
@@ -90,7 +90,7 @@ module _ (reads : FramesAreRead) (bytes : List ℕ) (many : Bool) (small : IsByt
   stop_err : (n : ℕ) (stop : Stop) → SectionStops bytes many n stop → read_fault bytes many ≡ Some (placed n None (fault_of stop))
   stop_err n stop h = section_err n h.here h.parts _ h.before ((section_tells many n h.parts h.here.0).met h.here.1 stop h.stops)
 
-  -- the code section
+  -- A fault of the count or of an entry is the fault of the code section.
   pub code_section : (n : ℕ) (p : Parts) (s : Section) (e : ReadFault) → s.0 ≡ 10 → codes_at many n (length (imported_funcs p.imports)) s.1 ≡ Err e → section_at many n p s ≡ Err e
   unfolding section_at
   code_section n p s e ten h = rw (ten, h)
@@ -102,14 +102,14 @@ module _ (reads : FramesAreRead) (bytes : List ℕ) (many : Bool) (small : IsByt
   entry_err : (n f : ℕ) (stop : Stop) → EntryStops bytes many n f stop → read_fault bytes many ≡ Some (placed n (Some f) (fault_of stop))
   entry_err n f stop h = inner_err n f h.0 (fault_of stop) h.1 ((code_tells many).met h.0 stop h.2)
 
-  -- the content of an entry is made of bytes
+  -- The content of an entry consists of bytes.
   entry_bytes : (func : ℕ) (c : List ℕ) (f : ℕ) (content : List ℕ) → IsBytes c → EntryOf many func c f content → IsBytes content
   entry_bytes func c f content ok h =
       let behind_count : IsBytes (h.front ++ (h.entry ++ h.back)) = rest_holds (λ n. n < 256) h.count _ (subst IsBytes h.text ok) in
       let behind_front : IsBytes (h.entry ++ h.back) = rest_holds (λ n. n < 256) h.front _ behind_count in
       content_bytes many (h.entry ++ h.back) content h.back behind_front (h.entry, h.sized, refl)
 
-  -- ---- what an entry's content comes to
+  -- ---- how the content of an entry is read
 
   either_way : {A E : Type 0} (r : Result A E) → ((x : A) × (r ≡ Ok x)) ⊎ ((e : E) × (r ≡ Err e))
   either_way (Ok x) = inl (x, refl)
@@ -170,7 +170,7 @@ module _ (reads : FramesAreRead) (bytes : List ℕ) (many : Bool) (small : IsByt
 
   -- ---- what is read has a cause
 
-  -- a stop or a fault inside an entry is no malformed section
+  -- A stop is not reported as a malformed section.
   stop_not : (n : ℕ) (s : Stop) → placed n None (fault_of s) ≡ Malformed n → ⊥
   stop_not n NotSupported h = cc
   stop_not n (Over w) h = cc

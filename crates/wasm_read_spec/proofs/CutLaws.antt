@@ -1,4 +1,4 @@
--- A prefix that is framed has the first frames of the whole.
+-- A prefix of a file that consists of frames has the first frames of the file.
 use Rattle.base_lists.proofs.Common.{◌≡◌, ℕ, List, [], ◌∷◌, ◌++◌, length, Bool, ◌⊎◌, inl, inr, refl, sym, ap, ◌∙◌, subst, arith, append_assoc, append-nil, ◌≢◌}
 use Rattle.wasm_bytes.specs.Prelude.{Sized, Section, header, Frames, Framed, order_after}
 use Rattle.wasm_bytes.specs.Frames.{SectionFrame}
@@ -15,7 +15,7 @@ sized_prefix_free = prefix_free_of sized_exact
 head_same : (a b : ℕ) (xs ys : List ℕ) → ◌≡◌ {A = List ℕ} (a ∷ xs) (b ∷ ys) → (a ≡ b) × (xs ≡ ys)
 head_same a b xs ys h = (cc, cc)
 
--- what is framed first is one frame
+-- The first frame of the bytes is unique.
 frame_same : (last : ℕ) (one other rest more : List ℕ) (s t : Section) → one ++ rest ≡ other ++ more → SectionFrame last one s → SectionFrame last other t → (s ≡ t) × (rest ≡ more)
 frame_same last one other rest more s t e f g =
     let a = f.1 in
@@ -38,7 +38,7 @@ frames_first (t ∷ ts) (s ∷ ss) last text rest bytes e f g =
     let later = frames_first ts ss (order_after last t.0) f.1 rest g.1 c.1 f.3 (subst (λ (z : Section). Frames (order_after last z.0) g.1 ss) c.0 g.3) in
     (later.0, ap (λ z. z ∷ ss) c.0 ∙ ap (λ zs. t ∷ zs) later.1)
 
--- the last of some
+-- A list with an item has a last item.
 last_of : (t : Section) (ts : List Section) → (front : List Section) × (last : Section) × (t ∷ ts ≡ front ++ last ∷ [])
 last_of t [] = ([], t, refl)
 last_of t (u ∷ us) = let k = last_of u us in (t ∷ k.0, k.1, ap (λ zs. t ∷ zs) k.2)

@@ -1,4 +1,4 @@
--- Code entries: what is read is what is spelled and small.
+-- Reading code entries finds what is encoded and within the limits, and nothing else.
 use Rattle.base_lists.proofs.Common.{◌≡◌, ℕ, zero, suc, ◌+◌, ◌≤◌, List, [], ◌∷◌, ◌++◌, length, Result, Ok, Err, Bool, cond, Option, Some, None, refl, sym, ap, ◌∙◌, subst, arith, append-nil, le-ltb, eqb-suc-zero, ◌==◌, bind_ok, ok_pair, within_most}
 use Rattle.wasm_bytes.specs.Prelude.{TakesOff, U32, Each, Vector, Sized, IsBytes}
 use Rattle.wasm_bytes.proofs.Lists.{small_rest}
@@ -79,7 +79,7 @@ module _ (many : Bool) where
   bytes_front (x ∷ a) b h zero = h zero
   bytes_front (x ∷ a) b h (suc i) = bytes_front a b (λ j. h (suc j)) i
 
-  -- the content of a size is made of bytes, as the whole is
+  -- The content after a size consists of bytes if all bytes do.
   pub content_bytes : (bytes content rest : List ℕ) → IsBytes bytes → TakesOff (λ t. Sized t content) bytes rest → IsBytes content
   content_bytes bytes content rest small t =
       let text = bytes_front t.0 rest (subst IsBytes t.2 small) in

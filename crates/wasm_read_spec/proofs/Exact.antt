@@ -1,4 +1,4 @@
--- A reader that finds what is spelled and small, and nothing else; and how such readers are put together.
+-- Readers that find what is encoded and small, and nothing else, and combinations of them.
 use Rattle.base_lists.proofs.Common.{◌≡◌, ℕ, zero, suc, ◌≤◌, List, [], ◌∷◌, ◌++◌, length, Option, Result, Ok, Err, Bool, true, false, cond, refl, sym, ap, ◌∙◌, subst, arith, append_assoc, le-ltb, eqb-true, IsUtf8-from_is_utf8, is_utf8-from_IsUtf8, ◌==◌, IsUtf8, is_utf8, bind_ok, ok_pair, err_ok}
 use Rattle.base_lists.proofs.Common.{within_most}
 use Rattle.wasm_bytes.specs.declared.cursor.Wrong.{Wrong}
@@ -35,7 +35,7 @@ split P Q text rest h = ap (λ t. t ++ rest) h.4 ∙ append_assoc h.0 h.1 rest
 
 -- ---- exactness
 
--- another word for what is small
+-- A reader is exact also for an equivalent property of being small.
 pub other_small : {A E : Type 0} {P : List ℕ → A → Type 0} {S T : A → Type 0} {r : List ℕ → Result (A × List ℕ) E} → ((x : A) → S x → T x) → ((x : A) → T x → S x) → Exact P S r → Exact P T r
 other_small {A} {E} {P} {S} {T} {r} to back exact = record {
   sound = λ bytes x rest small e. let t = exact.sound bytes x rest small e in (t.0, to x t.1);
@@ -52,7 +52,7 @@ byte_exact = record {
   complete = λ text rest x h k. rw h;
 }
 
--- numbers of any form
+-- The reader of numbers is exact for every form of numbers.
 number_exact : {V : Type 0} (last : ℕ → ℕ → Option V) (join : ℕ → V → V) (bits : ℕ) → Exact (SpellsNumber last join bits) Any (λ bs. or_malformed (reading last join bits bs))
 number_exact last join bits = record {
   sound = λ bytes x rest small e. (spelled_of_reading last join bits bytes x rest small (or_ok _ _ e), tt);
@@ -83,7 +83,7 @@ sized_exact = record {
   complete = λ text rest x h k. ap or_malformed (content_complete U32 (unsigned_at 32) (λ t more n g. or_ok _ _ (u32_exact.complete t more n g tt)) text rest x h);
 }
 
--- a name
+-- A name is read only if its bytes are UTF-8.
 text_is : (b : Bool) (content rest x more : List ℕ) → ◌≡◌ {A = Result (List ℕ × List ℕ) Wrong} (cond b (Ok (content, rest)) (Err Spelling)) (Ok (x, more)) → (b ≡ true) × (content ≡ x) × (rest ≡ more)
 text_is true content rest x more e = let p = ok_pair {E = Wrong} content x rest more e in (refl, p.0, p.1)
 text_is false content rest x more e = cc
@@ -106,7 +106,7 @@ name_exact = record {
   complete = λ text rest x h k. ap or_malformed (name_complete text rest x h);
 }
 
--- ---- how they are put together
+-- ---- combinations of readers
 
 pub just_exact : {A : Type 0} (x : A) → Exact (Just x) Any (just_at x)
 just_exact {A} x = record {
@@ -136,11 +136,11 @@ pair_exact {A} {B} {P = P} {Q = Q} {S = S} {T = T} {r = r} {q = q} a b = record 
   complete = λ text rest p h k. rw (split _ _ text rest h, a.complete h.0 (h.1 ++ rest) p.0 h.2 k.0, b.complete h.1 rest p.1 h.3 k.1);
 }
 
--- both without limits
+-- A pair of readers without limits is exact without limits.
 pub both_exact : {A B : Type 0} {P : List ℕ → A → Type 0} {Q : List ℕ → B → Type 0} {r : Reader A} {q : Reader B} → Exact P Any r → Exact Q Any q → Exact {A = A × B} (Both P Q) Any (pair_at r q)
 both_exact a b = other_small (λ x h. tt) (λ x h. (tt, tt)) (pair_exact a b)
 
--- another view of the value
+-- A reader is exact also for an equivalent form of its values.
 pub mapped_exact : {A B : Type 0} {P : List ℕ → A → Type 0} {S : A → Type 0} {r : Reader A} (make : A → B) (back : B → A) → ((x : A) → back (make x) ≡ x) → ((y : B) → make (back y) ≡ y) → Exact P S r →
     Exact {A = B} (λ b y. P b (back y)) (λ y. S (back y)) (mapped_at make r)
 mapped_exact {A} {B} {P} {S} {r} make back one two exact = record {
@@ -191,7 +191,7 @@ coded_exact code = record {
   complete = λ text rest x h k. rw (h.2, h.1);
 }
 
--- after a byte, and before one
+-- A reader after a given byte is used only if the byte is there.
 chosen_tag : {A : Type 0} (c : Bool) (bs : List ℕ) (r : Reader A) (y : A × List ℕ) → ◌>>=◌ {A = Unit {0} × List ℕ} (cond c (Ok (tt {0}, bs)) (Err Malformed)) (λ u. r u.1) ≡ Ok y → (c ≡ true) × (r bs ≡ Ok y)
 chosen_tag true bs r y e = (refl, e)
 chosen_tag false bs r y e = cc
@@ -226,7 +226,7 @@ closed_exact {A} {P} {r} tag exact = record {
   complete = λ text rest x h k. rw (split _ _ text rest h, exact.complete h.0 (h.1 ++ rest) x h.2 tt, h.3) (tag_self tag (λ bs. Ok (x, bs)) rest);
 }
 
--- ---- so many items
+-- ---- a given number of items
 
 module _ {A E : Type 0} (P : List ℕ → A → Type 0) (S : ℕ → A → Type 0) (item : ℕ → List ℕ → Result (A × List ℕ) E) (next : ℕ → A → ℕ) (exact : (state : ℕ) → Exact P (S state) (item state)) where
   pub each_sound : (n state : ℕ) (bytes : List ℕ) (xs : List A) (rest : List ℕ) → IsBytes bytes → each_from item next n state bytes ≡ Ok (xs, rest) → TakesOff (λ b. Each P b xs) bytes rest × (n ≡ length xs) × Along S next state xs
@@ -272,7 +272,7 @@ module _ {A : Type 0} (P : List ℕ → A → Type 0) (S : A → Type 0) (item :
   same_complete : (xs : List A) (text rest : List ℕ) → Each P text xs → Every S xs → each_at item (length xs) (text ++ rest) ≡ Ok (xs, rest)
   same_complete xs text rest h k = each_complete P (λ s. S) (λ s. item) (λ s x. 0) (λ s. exact) xs 0 text rest h (every_along S xs k)
 
-  -- a vector without a limit
+  -- The reader of a vector without a limit is exact.
   list_exact_at : Exact (Vector P) (Every S) (list_at item)
   unfolding list_at
   list_exact_at = record {
@@ -284,7 +284,7 @@ module _ {A : Type 0} (P : List ℕ → A → Type 0) (S : A → Type 0) (item :
     complete = λ text rest xs h k. rw (split _ _ text rest h, u32_exact.complete h.0 (h.1 ++ rest) (length xs) h.2 tt, same_complete xs h.1 rest h.3 k);
   }
 
-  -- a vector with one
+  -- The reader of a vector with a limit is exact.
   vector_exact_at : (which : Which) → Exact (Vector P) (Few (limit which) S) (vector_at which item)
   unfolding vector_at
   vector_exact_at which = record {
@@ -308,7 +308,7 @@ vector_exact {A} {P} {S} {item} which exact = vector_exact_at P S item exact whi
 
 -- ---- one value
 
--- what is spelled is one value, and nothing follows it
+-- Bytes that begin with encodings of two values begin with one encoding of one value.
 pub one_value : {A E : Type 0} (P : List ℕ → A → Type 0) (S : A → Type 0) (r : List ℕ → Result (A × List ℕ) E) → Exact P S r → (one other rest more : List ℕ) (x y : A) → one ++ rest ≡ other ++ more → P one x → S x → P other y → S y → (x ≡ y) × (rest ≡ more)
 one_value {A} {E} P S r exact one other rest more x y e p s q t =
     ok_pair {E = E} x y rest more (sym (exact.complete one rest x p s) ∙ ap r e ∙ exact.complete other more y q t)

@@ -1,4 +1,4 @@
--- A file is read exactly where it spells a tree, within the limits.
+-- A file is read exactly if it encodes a tree and is within the limits.
 use Rattle.base_lists.proofs.Common.{◌≡◌, ℕ, zero, suc, ◌+◌, ◌<◌, slice_index, List, [], ◌∷◌, ◌++◌, length, Result, Ok, Err, Bool, true, false, cond, Option, Some, None, refl, sym, ap, ◌∙◌, subst, arith, eqb-true, and_parts, ◌==◌, ◌↔◌, bind_ok}
 use Rattle.wasm_bytes.specs.Prelude.{IsBytes, Section, order_after, Frames, Framed, FramesAreRead}
 use Rattle.wasm_bytes.proofs.Lists.{rest_holds}
@@ -14,7 +14,7 @@ use Rattle.wasm_read_spec.proofs.SectionLaws.{section_right}
 
 -- ---- contents are bytes
 
--- what holds of 0, and of each entry, holds of each entry in front
+-- A property of 0 and of each entry of a list holds of each entry of its first part.
 pub front_holds : (P : ℕ → Type 0) → P 0 → (a b : List ℕ) → ((i : ℕ) → P (slice_index (a ++ b) i)) → (i : ℕ) → P (slice_index a i)
 front_holds P none [] b h zero = none
 front_holds P none [] b h (suc i) = none
@@ -96,7 +96,7 @@ whole_ok true p q e h = let same : p ≡ q = cc in (refl, same)
 whole_ok false p q e h = cc
 
 module _ (reads : FramesAreRead) (many : Bool) (bytes : List ℕ) (small : IsBytes bytes) where
-  -- the parts of a file that is read
+  -- The sections of a file that is read are framed, are within the limits and lead to its parts.
   pub parts_found : (p : Parts) → parts_at many bytes ≡ Ok p → (ss : List Section) × Framed bytes ss × SectionContents many nothing ss p × Every (SectionIsSmall many) ss × Rules p
   unfolding parts_at
   parts_found p h =
@@ -120,11 +120,11 @@ unfolding read_at parts_at
 tree_read reads many bytes m h k =
     rw (framed_reads reads bytes h.0 h.2, contents_complete many 0 nothing h.0 h.1 h.3 (k h.0 h.2), of_rules h.1 h.4) (ap Ok (sym h.5))
 
--- a tree is read exactly where it is spelled within the limits
+-- A tree is read exactly if the bytes encode it and are within the limits.
 pub read_exactly : FramesAreRead → (many : Bool) (bytes : List ℕ) (m : Module) → IsBytes bytes → (read_at many bytes ≡ Ok m) ↔ (Spells bytes m many × Within bytes many)
 read_exactly reads many bytes m small = (tree_found reads many bytes small m, λ h. tree_read reads many bytes m h.0 h.1)
 
--- some bytes spell at most one tree
+-- The same bytes encode at most one tree.
 pub decoding_is_unique : FramesAreRead → (many : Bool) (bytes : List ℕ) (m n : Module) → Spells bytes m many → Spells bytes n many → m ≡ n
 decoding_is_unique reads many bytes m n h k =
     let frames = one_framing reads bytes h.0 k.0 h.2 k.2 in
@@ -132,7 +132,7 @@ decoding_is_unique reads many bytes m n h k =
 
 -- ---- faults
 
--- a fault is what reading gives
+-- A first fault of the file is what reading it gives.
 pub told : {A : Type 0} (r : Result A ReadFault) (e : ReadFault) → fault_of r ≡ Some e → r ≡ Err e
 told (Ok x) e h = cc
 told (Err w) e h = let same : w ≡ e = cc in ap Err same

@@ -1,4 +1,4 @@
--- What is read of the frames of a whole file is what it frames.
+-- Reading the frames of a file finds its frames, and nothing else.
 use Rattle.base_lists.proofs.Common.{◌≡◌, ℕ, List, [], ◌∷◌, ◌++◌, take, Result, Ok, Err, Bool, true, false, cond, ◌⊎◌, inl, inr, ⊎_elim, refl, sym, ap, ◌∙◌, subst, arith, ◌↔◌, eqb-true, and_parts, cases_Bool, ◌==◌}
 use Rattle.wasm_bytes.specs.Prelude.{IsBytes, Section, header, HasHeader, Framed, FirstBad, FramesAreRead, frames_behind}
 use Rattle.wasm_read_spec.specs.declared.fault.ReadFault.{ReadFault}
@@ -44,7 +44,7 @@ numbered_err : {A : Type 0} (r : Result A ℕ) (e : ReadFault) → numbered r �
 numbered_err (Ok y) e h = cc
 numbered_err (Err n) e h = let same : Malformed n ≡ e = cc in (n, refl, sym same)
 
--- what the law says of frames
+-- The lemmas below use the law on the reading of frames.
 module _ (reads : FramesAreRead) where
   pub framed_reads : (bytes : List ℕ) (ss : List Section) → Framed bytes ss → framed_at bytes ≡ Ok ss
   framed_reads bytes ss f = with_header bytes (has_header bytes f.0 f.1 f.2 f.4) ∙ ap numbered (reads.complete bytes ss f)
@@ -52,7 +52,6 @@ module _ (reads : FramesAreRead) where
   pub bad_reads : (bytes : List ℕ) (n : ℕ) → IsBytes bytes → FirstBad bytes n → framed_at bytes ≡ Err (Malformed n)
   bad_reads bytes n small f = let h = has_header bytes f.0 f.1 f.2 f.4 in with_header bytes h ∙ ap numbered ((reads.bad bytes n small h).1 f)
 
-  -- what framed_at says, told apart
   pub framed_sound : (bytes : List ℕ) (ss : List Section) → IsBytes bytes → framed_at bytes ≡ Ok ss → Framed bytes ss
   unfolding framed_at
   framed_sound bytes ss small e = ⊎_elim

@@ -1,4 +1,5 @@
--- The readers of types, constant expressions and what the sections hold find what is spelled and small, and nothing else.
+-- The readers of types, constant expressions and the items of sections find what is encoded and
+-- small, and nothing else.
 use Rattle.base_lists.proofs.Common.{◌≡◌, ℕ, ◌+◌, ◌-◌, ◌≤◌, List, [], ◌∷◌, ◌++◌, length, refl, subst, arith, ◌∙◌, ap, sym, ◌==◌, bind_ok, ok_pair, within_most}
 use Rattle.std.proofs.Common.{le-ltb}
 use Rattle.std.proofs.lemmas.List.Sums.{sum-map, sum_by-cons}

@@ -1,4 +1,5 @@
--- The readers of types, constant expressions and what the sections hold tell the stops of their bytes, and no others.
+-- The readers of types, constant expressions and the items of sections report the stops of their
+-- bytes, and no others.
 use Rattle.base_lists.proofs.Common.{◌≡◌, ℕ, ◌+◌, ◌-◌, ◌<◌, ◌≤◌, List, [], ◌∷◌, ◌++◌, Result, Ok, Err, Bool, true, false, cond, ◌⊎◌, inl, inr, ⊎_elim, refl, sym, ap, ◌∙◌, subst, arith, cases_lt, lt-ltb, le-ltb, IsTrue, nat_lt, nat_le, ◌==◌, ◌&&◌, ◌||◌}
 use Rattle.wasm_bytes.specs.Prelude.{U32, ◌>>=◌}
 use Rattle.wasm_tree_spec.specs.Prelude.{Parameters, Results, Locals, I32, I64, Ref, LocalGroup, limit, declared_count}
@@ -21,7 +22,8 @@ use Rattle.wasm_read_spec.proofs.Stopping.{same_err, Known, known_as, Tells, oth
 
 -- ---- one byte
 
--- a byte's code says what is known of it: a value, or that it is not supported where the test says so, or that it is misspelled
+-- The code of a byte gives a value, reports it as not supported, which it does exactly if the test
+-- is true, or reports it as malformed.
 data Coding {A : Type 0} : Bool → Result A Fault → Type 0 where
   value : (x : A) → Coding false (Ok x)
   not_supported : Coding true (Err Unsupported)
@@ -47,7 +49,7 @@ coded_tells test code known = record {
   met = λ bytes s h. rw (h.2, h.4, coding_met (test h.0) (code h.0) (known h.0) h.3);
 }
 
--- where a byte's code is never that it is not supported
+-- A reader of one byte has no stop if no byte is unsupported.
 never_true : {A : Type 0} (code : ℕ → Result A Fault) → ((b : ℕ) → Coding false (code b)) → Tells NoStop (coded_at code)
 never_true code known = other_stops (λ s b h. (let bad = h.3 in cc)) (λ s b h. absurd h) (coded_tells (λ b. false) code known)
 
@@ -99,7 +101,7 @@ s32_tells = or_tells _
 pub s64_tells : Tells NoStop s64_at
 s64_tells = or_tells _
 
--- behind a value that never stops
+-- A reader after a first value without stops has the stops that are after this value.
 behind : {K A : Type 0} {P : List ℕ → K → Type 0} {T : Stop → List ℕ → Type 0} {first : Reader K} {next : Reader A} → Exact P Any first → Tells NoStop first → Tells T next → Tells (BehindStops P T) (pair_at first next)
 behind exact a b = other_stops (λ s b h. ⊎_elim (λ k. absurd k) (λ k. (k.0, k.2)) h) (λ s b h. inr (h.0, tt, h.1)) (pair_tells exact a b)
 
@@ -135,14 +137,14 @@ mut_tells : Tells NoStop mut_at
 unfolding mut_at
 mut_tells = never_true mut_of_code mut_coding
 
--- a global's type stops where its value type does
+-- The type of a global has the stops of its value type.
 global_tells : Tells ValStops global_at
 unfolding global_at
 global_tells = mapped_tells global_of (only_first (pair_tells val_exact val_tells mut_tells))
 
 -- ---- constant expressions
 
--- it is told as not supported where the test says so
+-- A fault is reported as not supported exactly if the test is true.
 data Told : Bool → Fault → Type 0 where
   not_told : Told false Malformed
   is_told : Told true Unsupported
@@ -163,7 +165,7 @@ const_told b = or_told (b == 0x43) _ _ (or_told (b == 0x44) _ _ (last (b == 0xFD
     last true = is_told
     last false = not_told
 
--- a form that begins with a byte which is supported
+-- A form that begins with a supported byte adds no stop.
 when_supported : {A : Type 0} {r q : Reader A} (test : Bool) (unsupported : Bool) → (test ≡ true → unsupported ≡ false) → Tells NoStop r → Tells (λ s b. IsTrue unsupported × (s ≡ NotSupported)) q →
     Tells (λ s b. IsTrue unsupported × (s ≡ NotSupported)) (when_at test r q)
 when_supported true unsupported is a b = other_stops (λ s c h. absurd h) (λ s c h. (let t = sym (is refl) ∙ h.0 in cc)) (nothing_when true a a)
@@ -247,7 +249,7 @@ data_tells = chosen_tells u32_exact u32_tells (λ n.
 
 -- ---- locals
 
--- a group's stop, by what so many locals leave of the limit
+-- The stops of a group of locals, by how many locals the limit still allows after `sum` locals.
 abbrev LeftStops : ℕ → Stop → List ℕ → Type 0
 LeftStops sum = ChosenStops U32 (λ n s b. ((limit Locals - sum < n) × (s ≡ Over Locals)) ⊎ ((n ≤ limit Locals - sum) × ValStops s b))
 
@@ -273,7 +275,7 @@ sum_behind : (sum : ℕ) (gs : List LocalGroup) → state_behind with_group sum 
 sum_behind sum [] = omega arith
 sum_behind sum (g ∷ gs) = let e = sum_behind (sum + g.count) gs in let d = declared_more g gs in omega (arith, e, d)
 
--- the same with the sum
+-- The stops by what the limit still allows are those by the sum of the locals.
 left_to_sum : (sum : ℕ) (s : Stop) (bytes : List ℕ) → sum ≤ limit Locals → LeftStops sum s bytes → GroupStops sum s bytes
 left_to_sum sum s bytes low h = (h.0, (h.1.0, h.1.1, h.1.2, ⊎_elim (λ k. inl (omega (arith, k.0, low), k.1)) (λ k. inr (omega (arith, k.0, low), k.1)) h.1.3, h.1.4))
 

@@ -1,4 +1,4 @@
--- What holds of each instruction that encloses no others holds of each that a token is.
+-- A property of the instructions that enclose no others holds of each instruction that is a token.
 use Rattle.base_lists.proofs.Common.{◌≡◌, ℕ, List, Bool, true, false, cond, Option, Some, None, ap, subst, rules, ℤ, ◌==◌, ◌&&◌, ◌||◌, nat_le}
 use Rattle.wasm_num.specs.declared.UnOp.{UnOp}
 use Rattle.wasm_num.specs.declared.BinOp.{BinOp}
@@ -11,7 +11,7 @@ use Rattle.wasm_read_spec.specs.declared.token.Token.TheVariants.{Plain}
 use Rattle.wasm_read_spec.specs.Prelude.{un_of, bin_of, load_of, store_of, Form, plain, number, numbers, const32, const64, table, access, memory, memories, with_memory, null, open', else', end', prefixed, unsupported, unknown, SpellsMemArg, SpellsMemory, Simple, FollowsOpcode, SpellsToken, depth_of}
 use Rattle.wasm_read_spec.specs.Tokens.{typed, form_or, the_form, rest_form, sub_form, arg_form}
 
--- a memory's index, which is 0 where memories have none
+-- The index of a memory is 0 where memories have no indices.
 abbrev pub Named : Bool → ℕ → Type 0
 Named false x = x ≡ 0
 Named true x = Unit {0}
@@ -58,7 +58,7 @@ pub record Leaves (many : Bool) (Q : Instr → Type 0) : Type 0 where
   pub of_RefNull : (t : RefType) → Q (RefNull t)
 
 module _ (many : Bool) (Q : Instr → Type 0) (leaves : Leaves many Q) where
-  -- of what is made by a form
+  -- The property holds of each instruction that a form makes.
   Holds : Form → Type 0
   Holds (plain i) = Q i
   Holds (number f) = (x : ℕ) → Q (f x)
@@ -115,7 +115,7 @@ module _ (many : Bool) (Q : Instr → Type 0) (leaves : Leaves many Q) where
   of_form b = option (un_of b) (λ op. plain (Un op)) _ (λ op. sure (plain (Un op)) (leaves.of_Un op)) (option (bin_of b) (λ op. plain (Bin op)) _ (λ op. sure (plain (Bin op)) (leaves.of_Bin op))
       (option (load_of b) (λ op. access (Load op)) _ (λ op. sure (access (Load op)) (leaves.of_Load op)) (option (store_of b) (λ op. access (Store op)) _ (λ op. sure (access (Store op)) (leaves.of_Store op)) (of_rest b))))
 
-  -- of what the token holds
+  -- The instruction of a token has the property if an equal token has it.
   made : {i j : Instr} → ◌≡◌ {A = Token} (Plain i) (Plain j) → Q j → Q i
   made {i} {j} e q = let same : j ≡ i = cc in subst Q same q
 
@@ -153,16 +153,16 @@ module _ (many : Bool) (Q : Instr → Type 0) (leaves : Leaves many Q) where
   of_follows prefixed text i p h = of_simple (sub_form h.0) h.1.1 i (of_sub h.0).it h.1.3
   of_follows f text i p h = of_simple f text i p h
 
-  -- of an instruction that is a token
+  -- Each instruction that is a token has the property.
   pub of_token : (text : List ℕ) (i : Instr) → SpellsToken many text (Plain i) → Q i
   of_token text i h = of_follows (the_form h.0) h.1.1 i (of_form h.0).it h.1.3
 
--- ---- they enclose nothing
+-- ---- their depth is 0
 
 pub flat : (many : Bool) → Leaves many (λ i. depth_of i ≡ 0)
 flat many = search (rules, the_lemmas)
 
--- ---- without several memories they name memory 0 alone
+-- ---- they name memory 0 alone where memories have no indices
 
 pub zero_memory : Leaves false (λ i. memory_zero i ≡ true)
 zero_memory = search (rules, the_lemmas)

@@ -1,4 +1,4 @@
--- What is spelled is read, or a quantity in it is over its limit.
+-- What is encoded is read, or a quantity in it is over its limit.
 use Rattle.base_lists.proofs.Common.{◌≡◌, ℕ, zero, suc, ◌-◌, ◌≤◌, List, [], ◌∷◌, ◌++◌, length, max, Result, Ok, Err, Bool, true, false, cond, ◌⊎◌, inl, inr, ⊎_elim, refl, sym, ap, subst, arith, append-nil, cases_lt, lt-ltb, le-ltb, nat_lt}
 use Rattle.wasm_bytes.specs.Prelude.{U32, Each, Vector, ◌>>=◌}
 use Rattle.wasm_tree_spec.specs.Prelude.{BlockType, FuncType, Instr, If, Which, Nesting, Locals, Parameters, Results, LocalGroup, limit}
@@ -20,7 +20,7 @@ use Rattle.wasm_read_spec.proofs.NestLaws.{to_in}
 use Rattle.wasm_read_spec.proofs.BodyLaws.{body_reads}
 use Rattle.wasm_read_spec.proofs.Stopping.{tag_reads}
 
--- it is read, or a limit is told
+-- The value is read, or a quantity is reported as over its limit.
 abbrev pub Got : {A E : Type 0} → (Which → E) → Result A E → A → Type 0
 Got over r x = (r ≡ Ok x) ⊎ ((w : Which) × (r ≡ Err (over w)))
 
@@ -29,14 +29,14 @@ bind_got over r x f y (inl e) (inl g) = inl (rw e g)
 bind_got over r x f y (inl e) (inr g) = inr (g.0, rw e g.1)
 bind_got over r x f y (inr e) g = inr (e.0, rw e.1)
 
--- of a count
+-- Comparing a count with its limit only adds the fault of this limit.
 pub count_got : {A E : Type 0} (over : Which → E) (which : Which) (most n : ℕ) (r : Result A E) (y : A) → Got over r y → Got over (cond (nat_lt most n) (Err (over which)) r) y
 count_got over which most n r y g = ⊎_elim
     (λ lt. inr (which, rw (lt-ltb most n lt)))
     (λ le. subst (λ b. Got over (cond b (Err (over which)) r) y) (sym (le-ltb most n le)) g)
     (cases_lt most n)
 
--- what is spelled at the front is
+-- The reader finds the value that the first bytes encode, or reports a limit.
 pub record Gets {A E : Type 0} (over : Which → E) (spells : List ℕ → A → Type 0) (reader : List ℕ → Result (A × List ℕ) E) : Type 0 where
   pub gets : (text rest : List ℕ) (x : A) → spells text x → Got over (reader (text ++ rest)) (x, rest)
 
@@ -60,7 +60,7 @@ tagged_gets {A} {P} {r} tag a = record {
       (bind_got fault.Limit (tag_at tag (tag ∷ (h.0 ++ rest))) (tt, h.0 ++ rest) _ (x, rest) (inl (tag_reads tag (h.0 ++ rest))) (a.gets h.0 rest x h.1));
 }
 
--- ---- so many items
+-- ---- a given number of items
 
 module _ {A E : Type 0} (over : Which → E) (P : List ℕ → A → Type 0) (item : ℕ → List ℕ → Result (A × List ℕ) E) (next : ℕ → A → ℕ) (a : (state : ℕ) → Gets over P (item state)) where
   pub each_gets : (xs : List A) (state : ℕ) (text rest : List ℕ) → Each P text xs → Got over (each_from item next (length xs) state (text ++ rest)) (xs, rest)
@@ -104,7 +104,7 @@ locals_get = record {
 
 -- ---- bodies
 
--- the same, or blocks nest too deep for the first
+-- The results are equal, or the first is the fault of the limit on nesting.
 abbrev SameOrDeep : {A : Type 0} → Result A Fault → Result A Fault → Type 0
 SameOrDeep r q = (r ≡ q) ⊎ (r ≡ Err (fault.Limit Nesting))
 

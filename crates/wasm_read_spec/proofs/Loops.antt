@@ -1,4 +1,4 @@
--- Steps of the loops that read so many items.
+-- The steps of loops that read a given number of items.
 use Rattle.base_lists.proofs.Common.{◌≡◌, ℕ, suc, ◌+◌, ◌-◌, ◌<◌, List, [], ◌∷◌, ◌++◌, Result, Ok, Err, refl, sym, ap, ◌∙◌, arith, append_assoc}
 use Rattle.wasm_bytes.specs.Prelude.{◌>>=◌}
 use Rattle.wasm_read_spec.specs.declared.fault.Fault.{Fault}
@@ -28,7 +28,7 @@ fails_through fault.Unsupported r f h = rw h
 fails_through (fault.Limit w) r f h = rw h
 
 module _ {A E : Type 0} (item : ℕ → List ℕ → Result (A × List ℕ) E) (next : ℕ → A → ℕ) (whole : Result (List A × List ℕ) E) where
-  -- one more item was read
+  -- An iteration that reads one more item keeps the result of the loop.
   pub each_more : (n i state : ℕ) (items new : List A) (x : A) (bs rest : List ℕ) → i < n → item state bs ≡ Ok (x, rest) → new ≡ items ++ x ∷ [] →
       whole ≡ with_front items (each_from item next (n - i) state bs) → whole ≡ with_front new (each_from item next (n - (i + 1)) (next state x) rest)
   unfolding each_from
@@ -37,7 +37,7 @@ module _ {A E : Type 0} (item : ℕ → List ℕ → Result (A × List ℕ) E) (
       let step : each_from item next (n - i) state bs ≡ with_front (x ∷ []) (each_from item next (n - (i + 1)) (next state x) rest) = rw (k, e) (one x (each_from item next (n - (i + 1)) (next state x) rest)) in
       h ∙ ap (with_front items) step ∙ front_front items (x ∷ []) _ ∙ ap (λ xs. with_front xs (each_from item next (n - (i + 1)) (next state x) rest)) (sym more)
 
-  -- the next one has a fault
+  -- A fault of the next item is the fault of the loop.
   pub each_err : (n i state : ℕ) (items : List A) (bs : List ℕ) (e : E) → i < n → item state bs ≡ Err e → whole ≡ with_front items (each_from item next (n - i) state bs) → whole ≡ Err e
   unfolding each_from
   each_err n i state items bs e lt bad h =

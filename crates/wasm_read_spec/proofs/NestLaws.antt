@@ -1,4 +1,4 @@
--- Tokens that nest, with their depth and with the memories that they name; and whole bodies.
+-- The depth of the instructions that tokens encode, the memories that they name, and whole bodies.
 use Rattle.base_lists.proofs.Common.{◌≡◌, ℕ, zero, suc, ◌+◌, ◌≤◌, max, List, [], ◌∷◌, ◌++◌, length, Ok, Bool, true, false, refl, sym, ap, ◌∙◌, arith, rules, append-nil, ◌&&◌, list_all, and_from, ok_pair}
 use Rattle.wasm_bytes.specs.Prelude.{Each, IsBytes}
 use Rattle.wasm_tree_spec.specs.Prelude.{BlockType, Instr, the_lemmas, Block, Loop, If, is_memory_zero, memory_zero_all, block_operands, limit, Nesting}
@@ -59,7 +59,7 @@ module _ (many : Bool) where
   pub body_read : (bytes : List ℕ) (is : List Instr) → SpellsBody many bytes is → depth is ≤ limit Nesting → body_at many bytes ≡ Ok is
   body_read bytes is h k = body_complete many bytes is (h.0, to_in h.1 (limit Nesting) k, h.2)
 
-  -- no spelling of a body goes on as that of another
+  -- The encodings of bodies are prefix-free.
   pub body_prefix_free : (one other rest more : List ℕ) (is js : List Instr) → one ++ rest ≡ other ++ more → SpellsBody many one is → SpellsBody many other js → (is ≡ js) × (rest ≡ more)
   body_prefix_free one other rest more is js e h k =
       let d = depth is + depth js in
@@ -74,7 +74,7 @@ body_ends many text more is js h k = let c = body_prefix_free many text (text ++
 -- ---- memory 0
 
 module _ (Q : Instr → Type 0) where
-  -- each plain token has it
+  -- Each plain token has the property.
   Plains : List Token → Type 0
   Plains [] = Unit {0}
   Plains (Plain i ∷ ts) = Q i × Plains ts
@@ -106,7 +106,7 @@ module _ (Q : Instr → Type 0) where
   plains_of many each (Else ∷ ts) bytes h = plains_of many each ts h.1 h.3
   plains_of many each (End ∷ ts) bytes h = plains_of many each ts h.1 h.3
 
--- a block type names no memory
+-- A block type names no memory.
 no_memory : (ty : BlockType) → list_all is_memory_zero (block_operands ty) ≡ true
 no_memory block.Empty = refl
 no_memory (block.Value t) = refl

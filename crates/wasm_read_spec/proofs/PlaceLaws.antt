@@ -1,4 +1,5 @@
--- The place of a fault is one: the contents come to a stop in one section, and in the code section in one entry.
+-- The place of a fault is unique: only one section has a stop, and in the code section only one
+-- entry.
 use Rattle.base_lists.proofs.Common.{◌≡◌, Bool, ℕ, suc, ◌+◌, List, [], ◌∷◌, ◌++◌, length, Result, Ok, Err, Option, Some, None, ⊎_elim, append_assoc, refl, sym, ap, ◌∙◌, subst, arith}
 use Rattle.base_lists.specs.Every.{Every}
 use Rattle.wasm_bytes.specs.Prelude.{U32, Each, Sized, IsBytes, Section, FramesAreRead}
@@ -25,7 +26,7 @@ module _ (many : Bool) (e e' : ReadFault) where
   section_read : (n : ℕ) (p m : Parts) (s : Section) → SpellsSection many p s m → SectionIsSmall many s → section_at many n p s ≡ Ok m
   section_read n p m s h k = (section_right many n p s.0).complete s.1 m h k
 
-  -- a section that is spelled within the limits is not the one that has a fault
+  -- A section that is encoded and within the limits is not the one with the fault.
   not_here : (w : ReadFault) (n : ℕ) (p q m : Parts) (s t : Section) → s ≡ t → p ≡ q → SpellsSection many p t m → SectionIsSmall many t → section_at many (n + 0) q s ≡ Err w → ⊥
   not_here w n p q m s t same parts h k bad =
       let here : n + 0 ≡ n = omega arith in
@@ -91,7 +92,7 @@ module _ (many : Bool) (n : ℕ) where
       let few = entries_same h.codes k.codes func h.front k.front h.entry k.entry h.back k.back content content' w w' rest h.spelled h.within h.sized bad k.spelled k.within k.sized bad' in
       h.number ∙ ap (λ l. func + l) few ∙ sym k.number
 
-  -- where an entry is reached the count is not over its limit
+  -- A code section whose entry is reached has no stop outside its entries.
   count_not : (func : ℕ) (c : List ℕ) (f : ℕ) (content : List ℕ) (id : ℕ) (stop : Stop) → id ≡ 10 → section_stops many id stop c → EntryOf many func c f content → ⊥
   unfolding section_stops
   count_not func c f content id stop ten h k = over (subst (λ z. section_stops many z stop c) ten h)
@@ -102,7 +103,7 @@ module _ (many : Bool) (n : ℕ) where
 -- ---- places
 
 module _ (reads : FramesAreRead) (bytes : List ℕ) (many : Bool) (small : IsBytes bytes) where
-  -- where a section comes to a stop, and where an entry does, the section is not read
+  -- A section with a stop is not read, and neither is one whose entry has a fault.
   inner_stops : (n f : ℕ) (content : List ℕ) (w : Fault) (h : InEntry bytes many n f content) → code_at many content ≡ Err w → section_at many n h.parts h.here ≡ Err (placed n (Some f) w)
   inner_stops n f content w h bad = code_section reads bytes many small n h.parts h.here _ h.code (entry_met many n (length (imported_funcs h.parts.imports)) h.here.1 f content w h.entry bad)
 

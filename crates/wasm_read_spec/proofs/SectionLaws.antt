@@ -1,4 +1,4 @@
--- A section is read exactly where its content spells what it puts, within the limits.
+-- A section is read exactly if its content is encoded and within the limits.
 use Rattle.base_lists.proofs.Common.{◌≡◌, ℕ, List, [], ◌∷◌, ◌++◌, length, Result, Ok, Err, Bool, true, false, None, ⊎_elim, refl, sym, ap, ◌∙◌, subst, append-nil, eqb-suc-zero, ◌==◌, if◌then◌else◌, cond_is, bind_ok, err_ok}
 use Rattle.wasm_bytes.specs.Prelude.{Vector, ◌>>=◌, IsBytes}
 use Rattle.wasm_tree_spec.specs.Prelude.{Imports, Exports, FuncType, imported_funcs, limit}
@@ -50,7 +50,7 @@ one_whole P free c x y h k = (free c c [] [] x y refl h k).0
 
 -- ---- sections
 
--- what the content spells and what is small in it, and how it is read
+-- The reading function of a content finds what is encoded and small, and nothing else.
 pub record Right (spells : List ℕ → Parts → Type 0) (small : List ℕ → Type 0) (read : List ℕ → Result Parts ReadFault) : Type 0 where
   pub sound : (c : List ℕ) (q : Parts) → IsBytes c → read c ≡ Ok q → spells c q × small c
   pub complete : (c : List ℕ) (q : Parts) → spells c q → small c → read c ≡ Ok q
@@ -83,7 +83,7 @@ right_put {A} {P} {S} {r} n make exact free = record {
   one = λ c q t h k. h.2 ∙ ap make (one_whole P free c h.0 k.0 h.1 k.1) ∙ sym k.2;
 }
 
--- a section without a limit
+-- A section without a limit is read exactly.
 right_free : {A : Type 0} {P : List ℕ → A → Type 0} {r : Reader A} (n : ℕ) (make : A → Parts) → Exact P Any r → IsPrefixFree P → Right (MadeFrom make P) Any (λ c. put_at n make (whole_at r c))
 right_free {A} {P} {r} n make exact free = record {
   sound = λ c q small e. let w = (right_put n make exact free).sound c q small e in (w.0, tt);
@@ -116,11 +116,11 @@ right_codes many n func p = record {
   one = λ c q t h k. h.2 ∙ ap (with_codes p) (one_whole _ (vector_prefix_free (entry_prefix_free many)) c h.0 k.0 h.1 k.1) ∙ sym k.2;
 }
 
--- function types without their limits
+-- The encodings of function types are prefix-free.
 type_prefix_free : IsPrefixFree SpellsFuncType
 type_prefix_free = prefix_free_of (tagged_exact 0x60 (mapped_exact func_type_of (λ (t : FuncType). (t.params, t.results)) (λ x. refl) (λ y. refl) (both_exact (list_exact val_exact) (list_exact val_exact))))
 
--- what a section lists is read as it is spelled, so that no spelling goes on as another
+-- The encodings of the items of sections are prefix-free.
 pub items_prefix_free : ItemsArePrefixFree
 items_prefix_free = record {
   types = type_prefix_free;

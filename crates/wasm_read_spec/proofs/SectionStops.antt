@@ -1,4 +1,5 @@
--- Reading a section tells the stops of its content, and the code section besides the faults inside its entries.
+-- Reading a section reports the stops of its content and, for the code section, the faults inside
+-- its entries.
 use Rattle.base_lists.proofs.Common.{◌≡◌, ℕ, zero, suc, ◌+◌, ◌<◌, List, [], ◌∷◌, ◌++◌, length, Result, Ok, Err, Bool, true, false, cond, Option, Some, None, ◌⊎◌, inl, inr, ⊎_elim, refl, sym, ap, ◌∙◌, arith, append_assoc, eqb-true, lt-ltb, le-ltb, cases_lt, ◌==◌, cond_is}
 use Rattle.base_lists.specs.Every.{Every}
 use Rattle.wasm_bytes.specs.Prelude.{Each, Sized, ◌>>=◌, IsBytes}
@@ -27,12 +28,12 @@ place_err {A} n o (Err w) e h = (w, refl, same_err {A = A} (placed n o w) e h)
 
 -- ---- the code section
 
--- the fault is one inside an entry
+-- The fault is one inside an entry of the code section.
 abbrev pub InnerFault : Bool → ℕ → ℕ → List ℕ → ReadFault → Type 0
 InnerFault many n func c e = (f : ℕ) × (content : List ℕ) × (w : Fault) × EntryOf many func c f content × (code_at many content ≡ Err w) × (e ≡ placed n (Some f) w)
 
 module _ (many : Bool) (n : ℕ) where
-  -- the same among so many entries, behind the count
+  -- The fault is one inside one of `k` entries, which follow the count.
   record FaultyEntry (k func : ℕ) (bytes : List ℕ) (e : ReadFault) : Type 0 where
     front : List ℕ
     entry : List ℕ
@@ -211,7 +212,8 @@ module _ {A : Type 0} (T : Stop → List ℕ → Type 0) (r : Reader A) (a : Tel
   unfolding whole_at
   whole_met c s h = rw (a.met c s h)
 
--- a fault of a section's content: it is a misspelling, or the content comes to a stop, or it is inside an entry of the code section
+-- The fault of a content: the content is malformed, has a stop, or has a fault inside an entry of
+-- the code section.
 abbrev pub SectionFault : (Stop → List ℕ → Type 0) → (List ℕ → ReadFault → Type 0) → ℕ → List ℕ → ReadFault → Type 0
 SectionFault stops inner n c e = (e ≡ Malformed n) ⊎ (((s : Stop) × (e ≡ placed n None (fault_of s)) × stops s c) ⊎ inner c e)
 

@@ -1,4 +1,4 @@
--- What is spelled, a section or a file, is read, or a quantity in it is over its limit.
+-- An encoded section or file is read, or a quantity in it is over its limit.
 use Rattle.base_lists.proofs.Common.{ℕ, ◌+◌, List, [], ◌∷◌, ◌++◌, length, Result, Ok, Err, Bool, true, false, cond, Option, Some, None, inl, inr, refl, sym, ap, subst, append-nil, ◌==◌}
 use Rattle.wasm_bytes.specs.Prelude.{Vector, ◌>>=◌, Section, FramesAreRead}
 use Rattle.wasm_tree_spec.specs.Prelude.{Imports, Exports, Module, imported_funcs, limit}

@@ -1,4 +1,4 @@
--- A reader that tells the stops of its bytes, and no others; and how such readers are put together.
+-- Readers that report the stops of their bytes, and no others, and combinations of them.
 use Rattle.base_lists.proofs.Common.{◌≡◌, ℕ, zero, suc, ◌<◌, List, [], ◌∷◌, ◌++◌, length, Result, Ok, Err, Bool, true, false, cond, ◌⊎◌, inl, inr, ⊎_elim, refl, sym, ap, subst, arith, cases_lt, lt-ltb, le-ltb, nat_lt, ◌==◌, ok_pair}
 use Rattle.wasm_bytes.specs.declared.cursor.Wrong.{Wrong}
 use Rattle.wasm_bytes.specs.Prelude.{Then, Each, ◌>>=◌, IsBytes}
@@ -24,12 +24,12 @@ same_err d e h = cc
 
 -- ---- what a fault says
 
--- the fault that a stop is told as
+-- The fault by which a stop is reported.
 abbrev pub fault_of : Stop → Fault
 fault_of NotSupported = Unsupported
 fault_of (Over w) = Limit w
 
--- it is a misspelling, or these bytes come to a stop that it tells
+-- The fault says that the bytes are malformed, or reports one of these stops.
 abbrev pub Known : (Stop → Type 0) → Fault → Type 0
 Known stops e = (e ≡ Malformed) ⊎ ((s : Stop) × (e ≡ fault_of s) × stops s)
 
@@ -41,14 +41,14 @@ pub record Tells {A : Type 0} (stops : Stop → List ℕ → Type 0) (reader : L
   pub found : (bytes : List ℕ) (e : Fault) → IsBytes bytes → reader bytes ≡ Err e → Known (λ s. stops s bytes) e
   pub met : (bytes : List ℕ) (s : Stop) → stops s bytes → reader bytes ≡ Err (fault_of s)
 
--- another word for the same stops
+-- A reader that reports some stops reports the same stops in an equivalent form.
 pub other_stops : {A : Type 0} {P Q : Stop → List ℕ → Type 0} {r : List ℕ → Result A Fault} → ((s : Stop) (b : List ℕ) → P s b → Q s b) → ((s : Stop) (b : List ℕ) → Q s b → P s b) → Tells P r → Tells Q r
 other_stops {A} {P} {Q} {r} to back t = record {
   found = λ bytes e small h. known_as (λ s. P s bytes) (λ s. Q s bytes) e (λ s. to s bytes) (t.found bytes e small h);
   met = λ bytes s h. t.met bytes s (back s bytes h);
 }
 
--- ---- readers that never stop
+-- ---- readers without stops
 
 or_is : {A : Type 0} (r : Result A Wrong) (e : Fault) → or_malformed r ≡ Err e → e ≡ Malformed
 or_is (Ok x) e h = cc
@@ -66,7 +66,7 @@ malformed_tells {A} = record { found = λ bytes e small h. inl (sym (same_err {A
 pub unsupported_tells : {A : Type 0} → Tells (λ s b. s ≡ NotSupported) (fault_at {A = A} Unsupported)
 unsupported_tells {A} = record { found = λ bytes e small h. inr (NotSupported, sym (same_err {A = A × List ℕ} Unsupported e h), refl); met = λ bytes s h. rw h }
 
--- ---- how they are put together
+-- ---- combinations of readers
 
 pub pair_tells : {A B : Type 0} {P : List ℕ → A → Type 0} {S : A → Type 0} {T U : Stop → List ℕ → Type 0} {r : Reader A} {q : Reader B} → Exact P S r → Tells T r → Tells U q → Tells (BothStops P S T U) (pair_at r q)
 pair_tells {A} {B} {P} {S} {T} {U} {r} {q} exact a b = record {
@@ -109,7 +109,7 @@ pub when_tells : {A : Type 0} {P Q : Stop → List ℕ → Type 0} {r q : Reader
 when_tells true a b = record { found = a.found; met = a.met }
 when_tells false a b = record { found = b.found; met = b.met }
 
--- after a byte, and before one
+-- A missing byte at the front is reported as malformed.
 tag_is : (c : Bool) (bs : List ℕ) (e : Fault) → ◌≡◌ {A = Result (Unit {0} × List ℕ) Fault} (cond c (Ok (tt {0}, bs)) (Err Malformed)) (Err e) → e ≡ Malformed
 tag_is true bs e h = cc
 tag_is false bs e h = cc
@@ -152,15 +152,15 @@ closed_tells {A} {T} {r} tag a = record {
   met = λ bytes s h. rw (a.met bytes s h);
 }
 
--- ---- so many items
+-- ---- a given number of items
 
--- the state behind items
+-- The state after the items.
 abbrev pub state_behind : {A : Type 0} → (ℕ → A → ℕ) → ℕ → List A → ℕ
 state_behind next state [] = state
 state_behind next state (x ∷ xs) = state_behind next (next state x) xs
 
 module _ {A : Type 0} (P : List ℕ → A → Type 0) (S : ℕ → A → Type 0) (T : ℕ → Stop → List ℕ → Type 0) (item : ℕ → Reader A) (next : ℕ → A → ℕ) (exact : (state : ℕ) → Exact P (S state) (item state)) (tells : (state : ℕ) → Tells (T state) (item state)) where
-  -- an item comes to the stop in the state that those before it lead to
+  -- One of `n` items has the stop, in the state that the items before it lead to.
   abbrev pub AlongStops : ℕ → ℕ → Stop → List ℕ → Type 0
   AlongStops n state stop bytes = (xs : List A) × (length xs < n) × Along S next state xs × Then (λ b. Each P b xs) (T (state_behind next state xs) stop) bytes
 

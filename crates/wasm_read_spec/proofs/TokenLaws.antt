@@ -1,4 +1,4 @@
--- Tokens: what is read is what is spelled.
+-- Reading tokens finds what is encoded, and nothing else.
 use Rattle.base_lists.proofs.Common.{◌≡◌, ℕ, ◌<◌, ◌≤◌, List, [], ◌∷◌, ◌++◌, Result, Ok, Bool, true, false, cond, Option, Some, None, ◌⊎◌, inl, inr, ⊎_elim, refl, ap, ◌∙◌, subst, arith, ℤ, pos, negsuc, ◌-ℤ◌, ints, cases_lt, eqb-true, ne_eqb, ◌&&◌, nat_lt, and_false, cond_is, bind_ok, ok_pair, err_ok}
 use Rattle.std.proofs.Common.{le-ltb, eqb, leb}
 use Rattle.wasm_bytes.specs.Prelude.{TakesOff, Signed, ◌>>=◌, IsBytes, signed_at}
@@ -29,7 +29,7 @@ none_some x h = cc
 leb_no : (a b : ℕ) → b < a → leb a b ≡ false
 leb_no a b h = grind arith
 
--- a value type read as a block type
+-- A value type that is read is encoded as a block type.
 value_sound : (bytes : List ℕ) (ty : BlockType) (rest : List ℕ) → IsBytes bytes → mapped_at Value val_at bytes ≡ Ok (ty, rest) → TakesOff (λ t. SpellsBlockType t ty) bytes rest
 value_sound bytes ty rest small e =
     let x = bind_ok (val_at bytes) _ _ e in
@@ -65,7 +65,7 @@ block_type_sound (b ∷ bs) ty rest small e = ⊎_elim (λ h. empty_sound b bs r
     (λ h. either_sound (leb 0x7B b && leb b 0x7F) b bs rest ty _ small (λ k. either_sound (leb 0x6F b && leb b 0x70) b bs rest ty _ small (λ l. number_sound b bs rest ty small l) k) h.1)
     (cond_is _ _ _ _ e)
 
--- the first byte of a number that isn't negative is none of the others
+-- A number of one byte whose sign bit is set is negative, so it is no type index.
 no_negative : (b n : ℕ) → b < 128 → pos b -ℤ pos 128 ≡ pos n → ⊥
 no_negative b n lt e = omega (arith, ints)
 
@@ -82,7 +82,7 @@ not_at b k first low high = ne_eqb b k (λ e. ⊎_elim (λ h. omega arith) (λ h
 not_between : (low high b : ℕ) → 64 ≤ low → high < 128 → (b < 64) ⊎ (128 ≤ b) → leb low b && leb b high ≡ false
 not_between low high b le lt first = ⊎_elim (λ h. rw (leb_no low b (omega arith))) (λ h. rw (leb_no b high (omega arith)) (and_false (leb low b))) first
 
--- a byte that is a value type's is none of an index, and is read as one
+-- The bytes of value types are only these four.
 val_bytes : (b : ℕ) (t : ValType) → val_of_code b ≡ Ok t → (b ≡ 0x7F) ⊎ ((b ≡ 0x7E) ⊎ ((b ≡ 0x70) ⊎ (b ≡ 0x6F)))
 unfolding val_of_code
 val_bytes b t e = ⊎_elim (λ h. inl (eqb-true b 0x7F h.0))
@@ -92,7 +92,7 @@ val_bytes b t e = ⊎_elim (λ h. inl (eqb-true b 0x7F h.0))
     (λ h. absurd (⊎_elim (λ k. err_ok Unsupported t k.1) (λ k. err_ok Malformed t k.1) (cond_is _ _ _ _ h.1)))
     (cond_is _ _ _ _ h.1)) (cond_is _ _ _ _ h.1)) (cond_is _ _ _ _ h.1)) (cond_is _ _ _ _ e)
 
--- what a byte of a value type makes of reading a block type
+-- A block type that begins with the byte of a value type is read as this value type.
 val_first : (b : ℕ) (bs : List ℕ) → (b ≡ 0x7F) ⊎ ((b ≡ 0x7E) ⊎ ((b ≡ 0x70) ⊎ (b ≡ 0x6F))) → block_type_at (b ∷ bs) ≡ mapped_at Value val_at (b ∷ bs)
 unfolding block_type_at
 val_first b bs h = ⊎_elim (λ e. rw e) (λ h. ⊎_elim (λ e. rw e) (λ h. ⊎_elim (λ e. rw e) (λ e. rw e) h) h) h

@@ -1,4 +1,4 @@
--- The readers of tokens tell the stops of their bytes, and no others.
+-- The readers of tokens report the stops of their bytes, and no others.
 use Rattle.base_lists.proofs.Common.{◌≡◌, ℕ, List, [], ◌∷◌, Err, Bool, true, false, inl, ⊎_elim, refl, sym, ap, ◌∙◌, arith, ℤ, pos, negsuc, and_parts, nat_lt, nat_le, ◌==◌, ◌&&◌, cond_is}
 use Rattle.wasm_bytes.specs.Prelude.{◌>>=◌, IsBytes, signed_at}
 use Rattle.wasm_tree_spec.specs.Prelude.{Value}
@@ -40,7 +40,7 @@ block_found (b ∷ bs) e small h = ⊎_elim (λ k. absurd (ok_err _ e k.1))
     (cond_is (nat_le 0x7B b && nat_le b 0x7F) _ _ _ k.1))
     (cond_is (b == 0x40) _ _ _ h)
 
--- a byte of an unsupported type is read as that of a value type
+-- The byte of an unsupported type as a block type is read as that of a value type.
 unsupported_first : (b : ℕ) (bs : List ℕ) → is_unsupported_val b ≡ true → block_type_at (b ∷ bs) ≡ mapped_at Value val_at (b ∷ bs)
 unfolding block_type_at is_unsupported_val
 unsupported_first b bs h =

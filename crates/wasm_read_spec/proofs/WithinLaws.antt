@@ -1,4 +1,4 @@
--- A file that spells a tree is within the limits where no quantity in it is over its limit.
+-- A file that encodes a tree is within the limits if no quantity in it is over its limit.
 use Rattle.base_lists.proofs.Common.{◌≡◌, List, ℕ, Bool, Option, Some, None, inl, inr, sym, ap, ◌∙◌, ◌↔◌}
 use Rattle.wasm_bytes.specs.Prelude.{IsBytes, FramesAreRead}
 use Rattle.wasm_tree_spec.specs.Prelude.{Which, Module}

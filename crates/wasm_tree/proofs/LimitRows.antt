@@ -1,4 +1,4 @@
--- The limits as numbers: each constant of the program is the number that is told of it.
+-- The limits as numbers: each constant of the program is the number that the specification gives.
 use Rattle.std.proofs.Common.{◌≡◌, refl}
 use Rattle.wasm_tree.specs.declared.which.Which.TheVariants.{InputBytes, Parts, Types, Imports, Functions, Tables, Memories, Globals, Exports, ElementSegments, DataSegments, Nesting, Locals, Parameters, Results, Trampolines, OutputBytes}
 use Rattle.wasm_tree.specs.Limits.{limit}

@@ -1,4 +1,4 @@
--- Laws of what an instruction names.
+-- Laws of the operands that an instruction names.
 use Rattle.base_lists.proofs.Common.{◌≡◌, ℕ, Bool, true, ◌&&◌, ◌||◌, List, [], ◌∷◌, ◌++◌, map, refl, sym, ap, ◌∙◌, ◌↔◌, subst, list_all, list_any, map-append, list_all-append, list_all-map, and_from, and_parts}
 use Rattle.base_lists.specs.Every.{Every}
 use Rattle.wasm_tree.specs.declared.space.Space.{Space}
@@ -13,7 +13,7 @@ use Rattle.wasm_tree.specs.Layers.{Layers, RowLayers, ListLayers}
 use Rattle.wasm_tree.specs.Operands.{operands, operands_of, block_operands, held, map_block, map_operands, mapped, mapped_all, operands_pass, all_operands_pass, any_pass_step, operand_passes, any_operand_passes}
 use Rattle.wasm_tree.specs.OperandLaws.{moved}
 
--- what a layer holds does not matter to what it names
+-- The operands of a layer do not depend on the instructions that it holds.
 pub operands_map : {X Y : Type 0} (g : X → Y) (layer : Instr-F X) → operands (map-Instr X Y g layer) ≡ operands layer
 operands_map g (Instr-F.Block ty body) = refl
 operands_map g layer = refl
@@ -57,7 +57,7 @@ any_map : {X : Type 0} (p : X → Bool) (xs : List X) → list_any (λ b. b) (ma
 any_map p [] = refl
 any_map p (x ∷ xs) = ap (λ b. p x || b) (any_map p xs)
 
--- a test of each layer that does not look at what the layer holds
+-- A test of each layer that does not look at the instructions that the layer holds.
 module _ (step : Instr-F Bool → Bool) (own : Instr-F Instr → Bool) (kept : (g : Instr → Bool) (layer : Instr-F Instr) → step (map-Instr Instr Bool g layer) ≡ own layer) where
   abbrev Whole : Instr → Bool
   Whole = fold-Instr Bool (λ layer. step layer && list_all (λ b. b) (held layer))
@@ -109,7 +109,7 @@ module _ (test : Operand → Bool) where
   all_append : (xs ys : List Instr) → all_operands_pass test (xs ++ ys) ≡ all_operands_pass test xs && all_operands_pass test ys
   all_append xs ys = list_all-append (operands_pass test) xs ys
 
-  -- of the three that hold others: their own operands and what they hold
+  -- Blocks, loops and ifs pass if their own operands and the instructions that they hold pass.
   in_block : (ty : BlockType) (n : _) (row : Row_of-Instr _) → operands_pass test (Block' ty n row) ≡ list_all test (block_operands ty) && all_operands_pass test (items-the_row-Instr _ row)
   unfolding out-Instr denote.Hole.Carrier.out
   in_block ty n row = passes_inside test (Block' ty n row) ∙ ap (λ xs. list_all test (block_operands ty) && all_operands_pass test xs) (items_shown-the_row-Instr-0 n row)
@@ -211,7 +211,8 @@ passes_more p r more code h = passes_both p p r (λ o a b. more o a) code h h
 
 -- ---- code with other indices ----
 
--- what is so of an instruction where it is so of each that it holds is so of all
+-- An induction on instructions: a property that each instruction has if all that it holds have it
+-- is a property of all instructions.
 module _ (P : Instr → Type 0) (inside : (i : Instr) → Every P (held (out-Instr i)) → P i) where
   abbrev Such : Type 0
   Such = (i : Instr) × P i
@@ -225,7 +226,8 @@ module _ (P : Instr → Type 0) (inside : (i : Instr) → Every P (held (out-Ins
       let z = map-Instr Such Instr (λ e. e.0) y in
       inside (roll-Instr z) (subst (λ l. Every P (held l)) (sym (out-roll-Instr z)) (subst (Every P) (sym (held_map (λ e. e.0) y)) (each (held y))))))
 
--- two tests, layer by layer, where a layer passes the first with other indices exactly where it passes the second
+-- Two tests by layers agree, the first on code with other indices and the second on the code, if
+-- they agree on each layer.
 module _
     (f : Space → ℕ → ℕ) (first second : Instr → Bool) (one other : Instr-F Instr → Bool)
     (first_inside : (i : Instr) → first i ≡ one (out-Instr i) && list_all first (held (out-Instr i)))

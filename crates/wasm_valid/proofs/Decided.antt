@@ -42,7 +42,7 @@ at_most a b = by (ltb b a) refl
     by true e = inr (λ h. absurd (let no : b < a = grind (arith, nat_tests) in omega arith))
     by false e = inl (grind (arith, nat_tests))
 
--- what is so of the entry at a place
+-- Whether there is an entry at a position that has a property can be decided.
 entry : {A : Type 0} (xs : List A) (i : ℕ) (P : A → Type 0) → ((x : A) → Either (P x)) → Either ((x : A) × (slice_get xs i ≡ Some x) × P x)
 entry {A} xs i P either = by (slice_get xs i) refl
   where
@@ -54,7 +54,7 @@ entry {A} xs i P either = by (slice_get xs i) refl
     by None e = inr (λ (y, is, p). let same : ◌≡◌ {A = Option A} None (Some y) = sym e ∙ is in cc)
     by (Some x) e = at x e (either x)
 
--- and where two things are so of it
+-- Whether there is an entry at a position that has two properties can be decided.
 entry_both : {A : Type 0} (xs : List A) (i : ℕ) (P Q : A → Type 0) → ((x : A) → Either (P x)) → ((x : A) → Either (Q x)) → Either ((x : A) × (slice_get xs i ≡ Some x) × P x × Q x)
 entry_both {A} xs i P Q one other = flat (entry xs i (λ x. P x × Q x) (λ x. both (one x) (other x)))
   where
@@ -186,7 +186,7 @@ starts : (m : Module) (o : Option ℕ) → m.start ≡ o → Either (Starts m)
 starts m None s = inr (λ h. let numbers : ◌≡◌ {A = Option ℕ} None (Some h.0) = sym s ∙ h.2 in cc)
 starts m (Some x) s = starts_at m x s (type_of_func m x) refl
 
--- the type of a function, and its body
+-- The type of a function exists, and its body is well typed in the context of this type.
 abbrev Body : Module → Func → Type 0
 Body m f = (t : FuncType) × (slice_get m.types f.ty ≡ Some t) × WellTyped (body_context m f t) f.body [] t.results
 
@@ -213,7 +213,6 @@ holds typing m kind.Elem i =
 holds typing m kind.Segment i = entry m.datas i (λ s. DataModeHolds m s.mode) (λ s. data_mode m s.mode)
 holds typing m kind.Body i = bodies typing m i
 
--- all items hold, or there is a first that does not
 abbrev AllOrFirst : Module → List Item → Type 0
 AllOrFirst m xs = EachHolds m xs ⊎ ((e : Invalid) × IsFirstOf m xs e)
 

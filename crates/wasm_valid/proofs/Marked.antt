@@ -1,4 +1,4 @@
--- Marks at the functions that are named, set in three turns.
+-- The marks at the functions that are named, set by three loops.
 use Rattle.base_lists.proofs.Common.{◌≡◌, ℕ, Bool, false, List, [], ◌++◌, sym, ap, ◌∙◌, append_assoc, replicate}
 use Rattle.base_kept.specs.Marks.{named_from, marked_all}
 use Rattle.base_kept.proofs.Marks.{all_marks, marked_append, no_marks}

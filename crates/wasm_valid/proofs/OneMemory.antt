@@ -12,14 +12,14 @@ use Rattle.wasm_valid.specs.declared.kinds.ItemKind.TheVariants as kind
 use Rattle.wasm_valid.specs.Prelude.{HoldsAt, IsValid, IsSingle}
 use Rattle.wasm_valid.proofs.Order.{each_item}
 
--- the one memory
+-- An index of an existing memory is 0 where there is at most one memory.
 zero_at : (c : Context) → c.memories ≤ 1 → (memory : ℕ) → nat_lt memory c.memories ≡ true → nat_eq memory 0 ≡ true
 zero_at c few memory h = grind (arith, nat_tests)
 
 abbrev AllZero : List Operand → Type 0
 AllZero = Every (λ o. is_memory_zero o ≡ true)
 
--- the layer itself names no memory but memory 0
+-- The outermost layer of an instruction names no memory other than memory 0.
 abbrev NamesZero : Instr-F Instr → Type 0
 NamesZero layer = AllZero (operands layer)
 

@@ -19,7 +19,7 @@ pub each_right : (m : Module) (xs ys : List Item) → EachHolds m (xs ++ ys) →
 each_right m [] ys h = h
 each_right m (x ∷ xs) ys h = each_right m xs ys h.1
 
--- all of a kind hold
+-- The items of a kind all hold if those at each position do.
 pass_from : (m : Module) (k : ItemKind) (i n : ℕ) → ((j : ℕ) → j < n → HoldsAt m k (j + i)) → EachHolds m (span k i n)
 pass_from m k i zero h = tt
 pass_from m k i (suc n) h =
@@ -28,7 +28,7 @@ pass_from m k i (suc n) h =
 pub span_pass : (m : Module) (k : ItemKind) (n : ℕ) → ((j : ℕ) → j < n → HoldsAt m k j) → EachHolds m (span k 0 n)
 span_pass m k n h = pass_from m k 0 n (λ j lt. subst (HoldsAt m k) (sym (add-zero j)) (h j lt))
 
--- the first of a kind that does not hold
+-- The items of a kind are split at one of them, and those before it hold.
 Split : (m : Module) (k : ItemKind) (i n j : ℕ) → Type 0
 Split m k i n j = (before after : List Item) × (span k i n ≡ before ++ item k j ∷ after) × EachHolds m before
 
@@ -52,7 +52,7 @@ span_fail m k n j index lt h bad e = here (split_at m k 0 n j lt (λ z l. subst 
     here : Split m k 0 n (j + 0) → IsFirstOf m (span k 0 n) (record { kind = k; index = index })
     here (before, after, f, hold) = (item k j, before, after, f ∙ ap (λ z. before ++ item k z ∷ after) (add-zero j), hold, bad, refl, e)
 
--- the same among the items of several kinds
+-- The items of several kinds, kind after kind.
 abbrev all_of : Module → Bool → List ItemKind → List Item
 all_of m many ks = flat_map (λ k. span k 0 (count_of m many k)) ks
 
@@ -79,11 +79,11 @@ one_more m many ks i k d lt is h g =
     subst (λ zs. EachHolds m (all_of m many zs)) (sym more)
     (subst (EachHolds m) (sym (flat_map-append (λ z. span z 0 (count_of m many z)) (take i ks) (k ∷ []))) (each_append m (all_of m many (take i ks)) (all_of m many (k ∷ [])) h last))
 
--- what a pass over one kind answers, in the module's own words
+-- The answer of a pass over one kind is an answer for any equal module.
 pub answer_at : (m n : Module) (many : Bool) (k : ItemKind) (r q : Option Invalid) → n ≡ m → r ≡ q → IsAnswer n (span k 0 (count_of n many k)) r → IsAnswer m (span k 0 (count_of m many k)) q
 answer_at m n many k r q same is h = subst (λ z. IsAnswer z (span k 0 (count_of z many k)) q) same (subst (IsAnswer n (span k 0 (count_of n many k))) is h)
 
--- the number of memories left aside
+-- A module whose items all hold is valid and has at most one memory.
 pub apart : (m : Module) → EachHolds m (items m false) → IsValid m × IsSingle m
 apart m h =
     let imports = span kind.Import 0 (count_of m true kind.Import) in
@@ -94,14 +94,14 @@ each_among : (m : Module) (front after : List Item) (x : Item) → EachHolds m (
 each_among m [] after x h = h.0
 each_among m (y ∷ front) after x h = each_among m front after x h.1
 
--- no item is the first that does not hold, where all do
+-- A valid module with at most one memory has no first item that does not hold.
 pub none_first : (m : Module) (e : Invalid) → IsValid m → IsSingle m → IsFirstOf m (items m false) e → ⊥
 none_first m e valid single (x, front, after, f, hold, bad, k, n) =
     let imports = span kind.Import 0 (count_of m true kind.Import) in
     let all : EachHolds m (items m false) = each_append m imports _ (each_left m imports _ valid) (single, each_right m imports _ valid) in
     bad (each_among m front after x (subst (EachHolds m) f all))
 
--- each item of a kind holds
+-- The items of each kind in a list of kinds hold if those of all these kinds do.
 kind_holds : (m : Module) (ks : List ItemKind) (p : ℕ) (k : ItemKind) → slice_get ks p ≡ Some k → EachHolds m (all_of m true ks) → EachHolds m (span k 0 (count_of m true k))
 kind_holds m [] p k e h = cc
 kind_holds m (x ∷ ks) zero k e h =

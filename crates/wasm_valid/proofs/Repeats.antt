@@ -1,4 +1,4 @@
--- Names that came before.
+-- The names of exports that repeat an earlier name.
 use Rattle.base_lists.proofs.Common.{◌≡◌, ℕ, zero, suc, ◌+◌, ◌<◌, ◌↔◌, Bool, true, false, IsTrue, List, [], ◌∷◌, ◌++◌, length, take, drop, get_or, map, Option, Some, refl, sym, ap, ◌∙◌, subst, append_assoc, append-nil, slice_get, Contains, list_any, bytes_eq, take-map, at_drop_more, mapped_more}
 use Rattle.base_lists.proofs.Texts.{text_among, text_not_among}
 use Rattle.std.specs.Prelude.{unwrap_or}
@@ -20,7 +20,7 @@ name_at [] i e h = cc
 name_at (x ∷ es) zero e h = let same : x ≡ e = cc in ap (λ z. Some z.name) same
 name_at (x ∷ es) (suc i) e h = name_at es i e h
 
--- what the table says of an export
+-- The table of repeated names says whether the name of an export occurs before it.
 table_says : (es : List Export) (i : ℕ) (e : Export) (repeated : List Bool) (b : Bool) → slice_get es i ≡ Some e → repeated ≡ repeats_after [] (map (λ x. x.name) es) → b ≡ unwrap_or (slice_get repeated i) false → b ≡ list_any (bytes_eq e.name) (map (λ x. x.name) (take i es))
 table_says es i e repeated b g r h =
     h ∙ ap (λ z. unwrap_or (slice_get z i) false) r ∙ ap (λ z. unwrap_or z false) (repeats_at [] (map (λ x. x.name) es) i e.name (name_at es i e g))
@@ -40,7 +40,7 @@ module _ (m : Module) (i : ℕ) (e : Export) (repeated : List Bool) (b : Bool) (
         absurd (new (subst (λ z. Contains (map (λ x. x.name) (take i m.exports)) z.name) (sym same) (text_among _ e.name (sym (table_says m.exports i e repeated b g r h) ∙ found)))),
   )
 
--- one name more in the table
+-- An iteration of the loop over the exports adds one entry to the table.
 pub joined_more : (all new : List Bool) (b : Bool) (es : List Export) (i : ℕ) (e : Export) → i < length es → e ≡ get_or es i e → new ≡ all ++ b ∷ [] → b ≡ list_any (bytes_eq e.name) (map (λ x. x.name) (take i es)) →
     new ++ repeats_after (map (λ x. x.name) (take (i + 1) es)) (map (λ x. x.name) (drop (i + 1) es)) ≡ all ++ repeats_after (map (λ x. x.name) (take i es)) (map (λ x. x.name) (drop i es))
 joined_more all new b es i e lt is n h =

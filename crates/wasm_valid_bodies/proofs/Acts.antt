@@ -18,7 +18,6 @@ unpushed (u ∷ ts) xs o [] k = absurd k
 unpushed (u ∷ ts) xs o (y ∷ t) k =
     let r = unpushed ts xs o t k.1 in (r.0, ap (λ v. v ∷ t) k.0 ∙ ap (λ v. Some u ∷ v) r.1, r.2)
 
--- the instance goes along an equation
 along : (xs : Stack) (o : Bool) (s t : Stack) → s ≡ t → Instance xs o s → Instance xs o t
 along xs o s t e i = subst (λ v. Instance xs o v) e i
 
@@ -27,7 +26,7 @@ pop_one-on [] false a s i = absurd i
 pop_one-on [] true a s i = ((None, []), refl, tt, tt)
 pop_one-on (x ∷ xs) o a s i = ((x, xs), refl, i.0, i.1)
 
--- a kept type is the type that is matched
+-- An operand that is matched by an instance of a kept type has this type.
 kept_type : (t : ValType) (b u : Operand) → IsInstance (Some t) b → Matches b u → u ≡ Some t
 kept_type t None u i m = cc
 kept_type t (Some v) u i m = sym m ∙ i
@@ -163,7 +162,7 @@ chosen-back b a u h =
     let m = join-back b a u (j.1 ∙ ap Some c.1) in
     (m.0, m.1, subst IsNumber c.1 (is_number-true j.0 c.0))
 
--- the stack of a first operand
+-- A concrete stack of a kept stack with a topmost operand has this operand on top.
 first : (x : Operand) (xs : Stack) (o : Bool) (t : Stack) → Concrete (x ∷ xs) o t → (s : Stack) × (t ≡ x ∷ s) × Concrete xs o s
 first x xs o [] k = absurd k
 first x xs o (y ∷ t) k = (t, ap (λ z. z ∷ t) k.0, k.1)
@@ -191,7 +190,7 @@ all_pop-back (l ∷ ls) xs o n h =
     let long : length (reverse l) ≡ n = length-reverse l ∙ eqb-true (length l) n b.0 in
     (subst (λ k. AllMatch (padded k xs) (reverse l)) long (pop_all-back xs o (reverse l) p.0 p.1).0, all_pop-back ls xs o n a.1)
 
--- the operands of a branch stand on some stack
+-- The operands of a branch lie on top of a concrete stack if the branch can follow the kept stack.
 branch-back : (ls : List (List ValType)) (xs : Stack) (o : Bool) → all_pop xs o (arity ls) ls ≡ true → (rest : Stack) × Concrete xs o (padded (arity ls) xs ++ rest)
 branch-back [] xs o h = (xs, self xs o)
 branch-back (l ∷ ls) xs o h =

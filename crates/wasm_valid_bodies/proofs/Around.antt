@@ -9,7 +9,8 @@ use Rattle.wasm_valid_bodies.specs.Tracking.{answer_of}
 use Rattle.wasm_valid_bodies.specs.OperandStack.{lowest, stack_of, beneath, when, AnswersEffect, IsBack}
 use Rattle.wasm_valid_bodies.proofs.Runs.{true_or_not}
 
--- what an instruction does after a block in it has ended
+-- The effect of an instruction with a block is the same from the stack after the block as from the
+-- stack before it.
 pub after_block : (e : Option Effect) (old now new : OperandStack) (r : Result Bool AllocError) → IsBack old now → IfOk r (λ ok. AnswersEffect e now new ok) → IfOk r (λ ok. AnswersEffect e old new ok)
 after_block e old now new r (s, a, n) =
     IfOk-weaker r _ _ (λ b h. (ap (λ xs. answer_of e xs old.any_below) (sym s) ∙ ap (λ o. answer_of e (stack_of now) o) (sym a) ∙ h.0, h.1 ∙ n))
@@ -23,7 +24,7 @@ undisturbed e old new r = IfOk-weaker r _ _ (λ b h. true_or_not b _ h.1)
 pub back_again : (a b c : OperandStack) → IsBack a b → IsBack b c → IsBack a c
 back_again a b c (s, p, n) (t, q, m) = (t ∙ s, q ∙ p, m ∙ n)
 
--- what stood there before a block stands there after it
+-- The end of a block restores the operands from before it.
 pub back : (old inside new : OperandStack) (outer : Outer) → beneath inside ≡ old.types.items → new.types.items ≡ beneath inside → outer.base ≡ old.base → new.base ≡ outer.base → outer.bottom ≡ old.bottom → new.bottom ≡ outer.bottom → outer.any_below ≡ old.any_below → new.any_below ≡ outer.any_below →
     IsBack old new
 back old inside new outer j i b' b l' l a' a =

@@ -6,7 +6,7 @@ use Rattle.wasm_tree_spec.specs.Prelude.{ValType, I32}
 use Rattle.wasm_valid_bodies.specs.Typing.{Stack, labels_at, Branches}
 use Rattle.wasm_valid_bodies.specs.Tracking.{pop_type, pop_all, all_pop, arity, answer_of, allows_types, allows_all}
 
--- where all labels are there, all_pop says what allows_all says
+-- The tests `allows_all` and `all_pop` agree if all labels exist.
 labels_same : (labels : List (List ValType)) (xs : Stack) (o : Bool) (n : ℕ) (ls : List ℕ) (ts : List (List ValType)) → labels_at labels ls ≡ Some ts → allows_all labels xs o n ls ≡ all_pop xs o n ts
 labels_same labels xs o n [] ts h = let e : [] ≡ ts = cc in ap (all_pop xs o n) e
 labels_same labels xs o n (l ∷ ls) ts h = here (slice_get labels l) (labels_at labels ls) h (labels_same labels xs o n ls)
@@ -19,7 +19,7 @@ labels_same labels xs o n (l ∷ ls) ts h = here (slice_get labels l) (labels_at
         let e : t ∷ us ≡ ts = cc in
         ap (λ b. (nat_eq (length t) n && is_some (pop_all xs o (reverse t))) && b) (ih us refl) ∙ ap (all_pop xs o n) e
 
--- where one isn't there, it is refused
+-- Labels that `allows_all` accepts all exist.
 labels_there : (labels : List (List ValType)) (xs : Stack) (o : Bool) (n : ℕ) (ls : List ℕ) → allows_all labels xs o n ls ≡ true → (ts : List (List ValType)) × (labels_at labels ls ≡ Some ts)
 labels_there labels xs o n [] h = ([], refl)
 labels_there labels xs o n (l ∷ ls) h = here (slice_get labels l) (allows_all labels xs o n ls) h (labels_there labels xs o n ls)
@@ -38,7 +38,7 @@ answer_at : (labels : List (List ValType)) (xs ys : Stack) (o : Bool) (ls : List
 answer_at labels xs ys o ls ts h g =
     ap (λ m. answer_of (option_map Branches m) xs o) h ∙ ap (λ m. option_and_then (λ ys. cond (all_pop ys o (arity ts) ts) (Some ([], true)) None) m) g
 
--- the first label is the one whose types are counted
+-- The arity of a branch is the number of types of its first label.
 arity_at : (labels : List (List ValType)) (l : ℕ) (ls : List ℕ) (t : List ValType) (ts : List (List ValType)) → slice_get labels l ≡ Some t → labels_at labels (l ∷ ls) ≡ Some ts → arity ts ≡ length t
 arity_at labels l ls t ts h g = here (labels_at labels ls) (sym (ap (λ m. option_and_then (λ t. option_map (λ us. t ∷ us) (labels_at labels ls)) m) h) ∙ g)
   where
@@ -69,7 +69,7 @@ branches_no labels xs ys o p l ls t h g e b = here (labels_at labels (l ∷ ls))
         ∙ ap (λ n. cond (all_pop ys o n ts) (Some ([], true)) None) (arity_at labels l ls t ts h k)
         ∙ ap (λ z. cond z (Some ([], true)) None) (sym (labels_same labels ys o (length t) (l ∷ ls) ts k) ∙ all_o)
 
--- a label that is refused
+-- A label that is refused makes the whole branch refused.
 pub refused_at : (labels : List (List ValType)) (xs : Stack) (o : Bool) (n i : ℕ) (ls : List ℕ) → i < length ls → allows_types xs o n (slice_get labels (get_or ls i 0)) ≡ false → allows_all labels xs o n (drop i ls) ≡ false
 refused_at labels xs o n i ls lt h =
     ap (allows_all labels xs o n) (drop-cons ls i 0 lt) ∙ ap (λ z. z && allows_all labels xs o n (drop (suc i) ls)) h
@@ -79,7 +79,7 @@ nothing_left labels xs o n i ls le e =
     let none : drop i ls ≡ [] = nil_from_length (drop i ls) (omega (arith, length-drop i ls)) in
     sym e ∙ ap (allows_all labels xs o n) none
 
--- a label that is allowed is passed
+-- A label that is allowed leaves the answer to the labels after it.
 pub allowed_at : (labels : List (List ValType)) (xs : Stack) (o : Bool) (n i : ℕ) (ls : List ℕ) → i < length ls → allows_types xs o n (slice_get labels (get_or ls i 0)) ≡ true → allows_all labels xs o n (drop i ls) ≡ allows_all labels xs o n (drop (i + 1) ls)
 allowed_at labels xs o n i ls lt h =
     ap (allows_all labels xs o n) (drop-cons ls i 0 lt) ∙ ap (λ z. z && allows_all labels xs o n (drop (suc i) ls)) h ∙ ap (λ j. allows_all labels xs o n (drop j ls)) (sym (add-one i))

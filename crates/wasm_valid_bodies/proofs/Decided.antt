@@ -11,7 +11,8 @@ use Rattle.wasm_valid_bodies.proofs.Runs.{IsPlain, plain_arm, own_instance, own_
 abbrev Relation : Type 1
 Relation = Stack → Stack → Type 0
 
--- what a relation leads to from the stacks that are kept so
+-- The checker has an answer for a relation from this kept stack: what it leads to, or that it leads
+-- nowhere.
 abbrev IsTracked : Relation → Stack → Bool → Type 0
 IsTracked F xs o = (ys : Stack) × (p : Bool) × (ok : Bool) × TracksStep F xs o ys p ok
 
@@ -60,7 +61,8 @@ ends_either L ps rs (ys, p, false, fails) = inr (λ (last, l, m). fails (operand
 
 -- ---- blocks
 
--- what an instruction with a body does: where its type is there and its body is right, it has an effect
+-- The relation of an instruction with a body: it has its effect if its type exists and its body is
+-- right.
 abbrev Does : Option Signature → (Signature → Type 0) → (Signature → Effect) → Relation
 Does sig IsRight effect s t = (f : Signature) × (sig ≡ Some f) × IsRight f × Acts (effect f) s t
 
@@ -104,7 +106,7 @@ both_either P Q (inl p) (inl q) = inl (p, q)
 both_either P Q (inr n) q = inr (λ h. n h.0)
 both_either P Q (inl p) (inr n) = inr (λ h. n h.1)
 
--- one relation, and then another
+-- The composition of two relations: a step of the first and then a step of the second.
 abbrev Then : Relation → Relation → Relation
 Then F G s t = (u : Stack) × F s u × G u t
 
@@ -124,7 +126,7 @@ then_tracked : (F G : Relation) (xs : Stack) (o : Bool) → IsTracked F xs o →
 then_tracked F G xs o (ys, p, false, fails) rest = ([], false, false, λ s t k h. fails s h.0 k h.1)
 then_tracked F G xs o (ys, p, true, steps) rest = then_more F G xs o ys p steps (rest ys p)
 
--- an if, whose two bodies are right
+-- The relation of an `if`: it has its effect if its type exists and both its bodies are right.
 abbrev DoesIf : Option Signature → (Signature → Type 0) → (Signature → Type 0) → (Signature → Effect) → Relation
 DoesIf sig IsRight IsRightToo effect s t = (f : Signature) × (sig ≡ Some f) × IsRight f × IsRightToo f × Acts (effect f) s t
 

@@ -10,12 +10,12 @@ use Rattle.wasm_valid_bodies.specs.OperandStack.{lowest, when}
 
 -- ---- what is taken off ----
 
--- below are any operands
+-- Operands of any types can be popped if any operands can be below an empty kept stack.
 anything : (ts : List ValType) → pop_all [] true ts ≡ Some []
 anything [] = refl
 anything (t ∷ ts) = anything ts
 
--- where all can be taken off, what is left lies below so many
+-- Popping operands of n types leaves the kept stack without its topmost n operands.
 pub popped : (xs : Stack) (o : Bool) (ts : List ValType) → pop_all xs o ts ≡ when (is_some (pop_all xs o ts)) (drop (length ts) xs)
 popped xs o [] = refl
 popped [] false (t ∷ ts) = refl
@@ -36,7 +36,8 @@ known (u ∷ us) (t ∷ ts) zs o vs e = here (same_type u t) (known us ts zs o v
     here true ih = ih
     here false ih = refl
 
--- below the known operands
+-- Operands can be popped below the known operands if any can be there, or if the bottom alone is
+-- enough.
 pub has_below : (b o : Bool) (vs : List ValType) → is_some (pop_all (lowest b) o vs) ≡ o || nat_le (length vs) (length (lowest b))
 has_below false true vs = ap is_some (anything vs)
 has_below true true [] = refl
@@ -99,12 +100,13 @@ fits_over us b o vs ws e =
     both true None = refl
     both true (Some x) = refl
 
--- the operands of the innermost block, parted at a place
+-- The operands of the innermost block are those before a position followed by those from it on.
 parted : (items : List ValType) (base k : ℕ) → base ≤ k → k ≤ length items → drop base items ≡ drop base (take k items) ++ drop k items
 parted items base k le within =
     ap (drop base) (sym (take-append-drop k items)) ∙ drop-append-le base (take k items) (drop k items) (omega (arith, length-take-le k items within))
 
--- as many of the topmost types, or all and what is missing
+-- Operands of these types can be popped from the known ones exactly if the topmost types are the
+-- same.
 pub can_pop_known : (items : List ValType) (base k : ℕ) (low : Stack) (o : Bool) (ts : List ValType) → base ≤ k → k + length ts ≡ length items → is_some (pop_all (operands (drop base items) ++ low) o (reverse ts)) ≡ same_types (drop k items) ts
 can_pop_known items base k low o ts le e =
     ap (λ z. is_some (pop_all (operands z ++ low) o (reverse ts))) (parted items base k le (omega arith))
@@ -117,7 +119,7 @@ can_pop_over us b o ts missing e =
     ∙ fits_over us b o (take missing ts) (drop missing ts) (omega (arith, length-drop missing ts))
     ∙ ap (λ n. (o || nat_le n (length (lowest b))) && same_types us (drop missing ts)) count
 
--- so many of the topmost operands are taken off
+-- A shorter list of types denotes the operands without the topmost ones.
 pub taken_off : (items : List ValType) (base k n : ℕ) (low : Stack) → base ≤ k → k + n ≡ length items → operands (drop base (take k items)) ++ low ≡ drop n (operands (drop base items) ++ low)
 taken_off items base k n low le e =
     let top = drop k items in
@@ -137,7 +139,7 @@ taken_all us b n lt = drop_all n (operands us ++ lowest b) (omega (arith, length
     few false = omega arith
     few true = omega arith
 
--- no operand stands there
+-- The innermost block has no operands if the list of types ends at its base.
 pub none_kept : (items : List ValType) (base : ℕ) → length items ≤ base → operands (drop base items) ++ [] ≡ []
 none_kept items base le = ap (λ z. operands z ++ []) (drop_all base items le)
 

@@ -1,4 +1,5 @@
--- Operands are taken off the kept stack exactly where they can be taken off the stacks that it denotes.
+-- Operands can be popped from the kept stack exactly if they can be from the stacks that it
+-- denotes.
 use Rattle.base_lists.proofs.Common.{arith, ◌≡◌, ℕ, zero, suc, Bool, true, false, cond, List, [], ◌∷◌, ◌++◌, length, Some, None, refl, sym, ap, ◌∙◌, subst, option_and_then}
 use Rattle.wasm_tree_spec.specs.Prelude.{ValType, same_type}
 use Rattle.wasm_valid_bodies.specs.Typing.{Operand, Stack, Matches, AllMatch}
@@ -14,14 +15,14 @@ pub fits-matches : (x : Operand) (t : ValType) → fits_type x t ≡ true → Ma
 fits-matches None t h = tt
 fits-matches (Some u) t h = let e : u ≡ t = grind arith in ap Some e
 
--- one operand
+-- One operand can be popped from the kept stack if it can be from a stack that it denotes.
 pub pop_type-on : (xs : Stack) (o : Bool) (a : Operand) (s : Stack) (t : ValType) → Instance xs o (a ∷ s) → Matches a (Some t) → (ys : Stack) × (pop_type xs o t ≡ Some ys) × Instance ys o s
 pop_type-on [] false a s t i m = absurd i
 pop_type-on [] true a s t i m = ([], refl, tt)
 pop_type-on (x ∷ xs) o a s t i m =
     (xs, ap (λ b. cond b (Some xs) None) (fits-instance x a t i.0 m), i.1)
 
--- operands, of which each that isn't there is a bottom
+-- The topmost n operands of a stack; each that is missing is a bottom.
 abbrev pub padded : ℕ → Stack → Stack
 padded zero xs = []
 padded (suc n) [] = None ∷ padded n []

@@ -13,7 +13,7 @@ use Rattle.wasm_valid_bodies.proofs.Rows.{to_list, to_row}
 use Rattle.wasm_valid_bodies.proofs.Pops.{pop_all-on, pop_all-back, padded}
 use Rattle.wasm_valid_bodies.proofs.Acts.{act-on, act-back}
 
--- a body as a list
+-- A body is well typed as a list exactly if it is as a row.
 pub ends_to : (c : Context) (v : List Instr) (ps rs : List ValType) → LeadsToMatch (Leads c (hidden-the_row-Instr-0 v)) ps rs → WellTyped c v ps rs
 ends_to c v ps rs (last, l, m) =
     (last, subst (λ is. LeadsAll c is (operands ps) last) (items_hidden-the_row-Instr-0 v) (to_list c (hidden-the_row-Instr-0 v) (operands ps) last l), m)
@@ -39,7 +39,7 @@ follows_map F G to from xs o ys p true h = record {
   on = λ s t i g. h.on s t i (from s t g);
 }
 
--- an instruction with no body
+-- The effect of an instruction without a body says what it leads to.
 by_effect : (m : Option Effect) (xs : Stack) (o : Bool) (ys : Stack) (p ok : Bool) → answer_of m xs o ≡ when ok (ys, p) → TracksStep (ActsAs m) xs o ys p ok
 by_effect None xs o ys p false h = λ s t i (e, g, a). cc
 by_effect None xs o ys p true h = cc
@@ -95,7 +95,8 @@ pub else_stop : (c : Context) (bt : BlockType) (v w : List Instr) (f : Signature
 else_stop c bt v w f xs o sig never s t i (g, e, l, m, a) =
     never (subst (λ z. WellTyped (under c z.results) w z.params z.results) (same_signature _ f g sig e) (ends_to (under c g.results) w g.params g.results m))
 
--- where the checker stands in a body: what is left of it leads on from the kept stack
+-- The checker has reached a position in a body: a run of the body is a run of the remaining
+-- instructions from the kept stack.
 pub record Rest (c : Context) (is : List Instr) (ps : List ValType) (xs : Stack) (o : Bool) (rest : List Instr) : Type 0 where
   pub on : (t : Stack) → LeadsAll c is (operands ps) t → (s : Stack) × Instance xs o s × LeadsAll c rest s t
   pub back : (s t : Stack) → Concrete xs o s → LeadsAll c rest s t → LeadsAll c is (operands ps) t
@@ -135,7 +136,7 @@ pub rest_stop : (c : Context) (is : List Instr) (ps rs : List ValType) (xs : Sta
 rest_stop c is ps rs xs o n d lt r f (last, l, m) =
     let a = (subst (Rest c is ps xs o) (drop-cons is n d lt) r).on last l in f a.0 a.2.0 a.1 a.2.1
 
--- the end of a body
+-- Only the empty kept stack denotes the empty stack, as the end of a body needs.
 pub nothing_below : (ys : Stack) (o : Bool) → Instance ys o [] → ys ≡ []
 nothing_below [] o i = refl
 nothing_below (y ∷ ys) o i = absurd i
@@ -160,7 +161,7 @@ rest_end c is ps rs xs o n ok le r e =
       λ (last, l, m). let a = q.on last l in e.1 (ends_on xs o last (reverse rs) (subst (Instance xs o) a.2 a.1) m),
     )
 
--- an instruction that is no block of a `Vec` is none of a row
+-- An instruction that is no block, loop or `if` with bodies as lists is none with bodies as rows.
 pub is_plain : (i : Instr) → ((bt : BlockType) (v : List Instr) → i ≡ Block bt v → ⊥) → ((bt : BlockType) (v : List Instr) → i ≡ Loop bt v → ⊥) → ((bt : BlockType) (v w : List Instr) → i ≡ If bt v w → ⊥) → IsPlain i
 is_plain (Block' bt n row) a b d =
     a bt (shown-the_row-Instr-0 n row) (sym (roll-out-Instr (Block' bt n row)) ∙ ap roll-Instr (outs-Block' bt n row) ∙ rolls-Block bt (shown-the_row-Instr-0 n row))
@@ -170,11 +171,11 @@ is_plain (If' bt n row m other) a b d =
     d bt (shown-the_row-Instr-0 n row) (shown-the_row-Instr-0 m other) (sym (roll-out-Instr (If' bt n row m other)) ∙ ap roll-Instr (outs-If' bt n row m other) ∙ rolls-If bt (shown-the_row-Instr-0 n row) (shown-the_row-Instr-0 m other))
 is_plain _ a b d = tt
 
--- what a nested call answers
+-- A nested check that answers false shows that its body is not well typed.
 not_typed : (P : Type 0) (ok : Bool) → IsTrue ok ↔ P → ok ≡ false → P → ⊥
 not_typed P ok e h x = let t : ok ≡ true = e.1 x in cc
 
--- the same facts as the code's steps have them
+-- The answers for blocks, loops and `if`s, in the form that the steps of the code need.
 module _ (c : Context) (i : Instr) (bt : BlockType) (v : List Instr) (f : Signature) (is : List Instr) (xs : Stack) (o : Bool) (sig : Some f ≡ signature_of c.types bt) (same : is ≡ v) where
   pub block_stopped : (ok : Bool) → i ≡ Block bt v → IsTrue ok ↔ WellTyped (under c f.results) is f.params f.results → ok ≡ false → LeadsNowhere (Fits c i) xs o
   block_stopped ok e w n =
@@ -216,12 +217,12 @@ pub true_or_not : (b : Bool) (P : Type 0) → P → OnTrue b P
 true_or_not true P h = h
 true_or_not false P h = tt
 
--- what stays whatever the answer
+-- A fact that does not depend on the answer holds for every answer.
 pub kept_so : (r : Result Bool AllocError) (P : Type 0) → P → IfOk r (λ b. OnTrue b P)
 kept_so (Ok b) P h = true_or_not b P h
 kept_so (Err e) P h = tt
 
--- a turn of the loop over a body
+-- An iteration of the loop over a body passes one instruction.
 pub turn : (c : Context) (is : List Instr) (ps : List ValType) (xs : Stack) (o : Bool) (ys : Stack) (p ok : Bool) (n : ℕ) (i : Instr) → n < length is → i ≡ get_or is n i → Rest c is ps xs o (drop n is) → TracksStep (Fits c i) xs o ys p ok → ok ≡ true → Rest c is ps ys p (drop (n + 1) is)
 turn c is ps xs o ys p ok n i lt e r f y =
     rest_step c is ps xs o ys p n i lt r (subst (λ z. StepsTo (Fits c z) xs o ys p) e (subst (TracksStep (Fits c i) xs o ys p) y f))

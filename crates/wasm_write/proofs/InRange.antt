@@ -46,7 +46,7 @@ table_in_range labels last h k =
     let few : list_all small labels ≡ true = list_all_from small labels (λ n x at. lt-ltb x (2 ^ 32) (every_at IsU32 labels n x k at)) in
     let s = and_from (list_all small labels) (small last) few (lt-ltb last (2 ^ 32) h) in search (rules, the_lemmas, s)
 
--- ---- and one more instruction in front of which there are others
+-- ---- one more instruction after others
 
 pub push_in_range : (is : List Instr) (i : Instr) → all_in_range is ≡ true → in_range i ≡ true → all_in_range (push is i) ≡ true
 push_in_range is i h k =

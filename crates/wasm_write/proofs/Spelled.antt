@@ -1,4 +1,5 @@
--- What spells the text of an instruction spells the instruction.
+-- The bytes of an instruction that is written, the data segments that it names, and the ranges of
+-- its numbers.
 use Rattle.base_lists.proofs.Common.{◌≡◌, ◌∙◌, ap, sym, Bool, ◌||◌, List, ℕ, Result, Ok, Err, OnOk, IsTrue}
 use Rattle.wasm_tree_spec.specs.Prelude.{Instr, uses_data_in}
 use Rattle.wasm_write_proof.specs.Ranges.{in_range}

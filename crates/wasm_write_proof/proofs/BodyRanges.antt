@@ -1,4 +1,4 @@
--- What is spelled in a body is in range.
+-- The numbers of an encoded body are in range.
 use Rattle.base_lists.proofs.Common.{◌≡◌, ℕ, List, [], ◌∷◌, ◌++◌, Bool, true, false, cond, ◌&&◌, Option, Some, None, refl, sym, subst, rules, nat_eq, ◌==◌, ◌||◌, nat_le, list_all, and_from}
 use Rattle.wasm_bytes.specs.Prelude.{U32, Each}
 use Rattle.wasm_tree_spec.specs.Prelude.{ValType, BlockType, RefType, MemArg, LoadOp, StoreOp, Instr, the_lemmas, Unreachable, Nop, Block, Loop, If, Br, BrIf, BrTable, Return, Call, CallIndirect, Drop, Select, SelectTyped, LocalGet, LocalSet, LocalTee, GlobalGet, GlobalSet, TableGet, TableSet, Load}
@@ -18,7 +18,7 @@ use Rattle.wasm_write_proof.specs.Ranges.{small, spellable, all_spellable, all_i
 use Rattle.wasm_write_proof.proofs.Inside.{in_range_of, Small, block_in, loop_in, if_in, more_in}
 use Rattle.wasm_write_proof.proofs.NumberRanges.{RangeLaws, u32_in, is_small, is_small_32, is_small_64, is_index, says_vector}
 
--- what is known of a token
+-- The numbers of a token are in range.
 abbrev Right : Token → Type 0
 Right (Plain i) = spellable i ≡ true
 Right (Open k ty) = Small (block_operands ty)

@@ -1,4 +1,4 @@
--- The plain texts of bodies spell them.
+-- The canonical encoding of a body encodes it.
 use Rattle.base_lists.proofs.Common.{◌≡◌, ℕ, suc, ◌+◌, ◌<◌, ◌^◌, List, [], ◌∷◌, ◌++◌, map, length, true, false, refl, sym, ap, ◌∙◌, subst, arith, append_assoc, append-nil, nat_eq, ◌&&◌, list_all, eqb-true, left_true, right_true}
 use Rattle.std.proofs.Common.{length-append}
 use Rattle.wasm_bytes.specs.Prelude.{u32_text, s32_text, s64_text, U32, Each, Vector}
@@ -181,7 +181,7 @@ body_of (e ∷ es) h few =
     let r = body_of es (rest_in e.0 (trees es) h) (omega (arith, few, both)) in
     (o.0 ++ r.0, o.1 r.0 (trees es) r.1, tokens_join o.0 r.0 (instr_text e.0) (instrs_text (trees es)) o.2 r.2)
 
--- an opcode and what follows it
+-- An instruction without a body is encoded by its opcode and what follows the opcode.
 leaf : (i : Instr) (code : ℕ) (rest : List ℕ) → FollowsOpcode false (the_form code) rest (Plain i) → One i (code ∷ rest)
 leaf i code rest s = (Plain i ∷ [], λ us is n. one_plain i n, (code ∷ rest, [], (code, (code ∷ [], rest, refl, s, refl)), refl, sym (append-nil (code ∷ rest))))
 
@@ -189,7 +189,7 @@ end_spells : Each (SpellsToken false) (0x0B ∷ []) (End ∷ [])
 unfolding the_form un_of bin_of load_of store_of rest_form
 end_spells = (0x0B ∷ [], [], (0x0B, (0x0B ∷ [], [], refl, (refl, refl), refl)), refl, refl)
 
--- one level, where each instruction inside is good
+-- The canonical encoding of an instruction encodes it if those of the instructions inside it do.
 node : TextLaws → (y : Instr-F Such) → LayerInRange (map-Instr Such Instr (λ e. e.0) y) →
     length (instr_step (map-Instr Instr (List ℕ) instr_text (map-Instr Such Instr (λ e. e.0) y))) < 2 ^ 32 →
     One (roll-Instr (map-Instr Such Instr (λ e. e.0) y)) (instr_step (map-Instr Instr (List ℕ) instr_text (map-Instr Such Instr (λ e. e.0) y)))

@@ -1,4 +1,5 @@
--- The plain texts of code entries spell them, and data is used in them as in the functions.
+-- The canonical encoding of a code entry encodes it, and code entries use data segments exactly if
+-- the functions do.
 use Rattle.base_lists.proofs.Common.{◌≡◌, ◌<◌, ◌^◌, List, [], ◌∷◌, map, length, true, false, ◌||◌, refl, ap, arith, left_true, right_true}
 use Rattle.base_lists.proofs.Every.{every_with}
 use Rattle.std.proofs.Common.{length-append}
@@ -34,7 +35,7 @@ code_spells laws f h zero few =
       refl,
     )
 
--- what a function needs to have a canonical encoding
+-- A function that has a canonical encoding: it is in range and names no memory other than memory 0.
 abbrev pub Spellable : Func → Type 0
 Spellable f = FuncInRange f × (memory_zero_all f.body ≡ true)
 

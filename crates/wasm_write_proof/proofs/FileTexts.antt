@@ -1,4 +1,4 @@
--- The plain text of a module spells it.
+-- The canonical encoding of a module encodes it.
 use Rattle.base_lists.proofs.Common.{◌≡◌, ℕ, zero, suc, ◌/◌, ◌<◌, ◌≤◌, ◌^◌, List, [], ◌∷◌, ◌++◌, map, length, Bool, true, false, Option, Some, None, refl, sym, ap, ◌∙◌, subst, arith, append_assoc, append-nil, ⊎_elim, if◌then◌else◌, IsTrue, lt-ltb, le-ltb, cases_lt, length-map}
 use Rattle.base_lists.proofs.Every.{every_of, every_with}
 use Rattle.std.proofs.Common.{length-append}
@@ -26,9 +26,10 @@ use Rattle.wasm_write_proof.proofs.ItemTexts.{func_type_spells, func_type_some, 
 use Rattle.wasm_write_proof.proofs.SegmentTexts.{elem_spells, elem_some, data_spells, data_some}
 use Rattle.wasm_write_proof.proofs.EntryTexts.{Spellable, all_spellable, entry_spells, entry_some, funcs_use_same}
 
--- ---- one section order_after another
+-- ---- one section after another
 
--- from the parts p the bytes make the parts q, behind any section whose place is at most bound; and where W is so, they are within the limits
+-- The bytes are sections that make the parts `q` of the parts `p`, after any section whose place is
+-- at most `bound`. If `W` holds, they are within the limits.
 abbrev Rest : Type 0 → ℕ → Parts → List ℕ → Parts → Type 0
 Rest W bound p bytes q = (last : ℕ) → last ≤ bound → (ss : List Section) × Frames last bytes ss × SectionContents false p ss q × (W → Every (SectionIsSmall false) ss)
 
@@ -41,7 +42,7 @@ one_more laws W bound next id p m q content bytes may behind few form small rest
 pub section_short : (id : ℕ) (content : List ℕ) → length (section_text id content) < 2 ^ 32 → length content < 2 ^ 32
 section_short id content h = omega (arith, h, length-append (u32_text (length content)) content)
 
--- a section of a list, if it has items
+-- The section of a list, which is left out if the list is empty, before the sections after it.
 list_more : TextLaws → {A B : Type 0} (W : Type 0) (bound next id : ℕ) (p q : Parts) (set : List B → Parts) (f : A → B) (text : A → List ℕ) (xs : List A) (bytes : List ℕ) →
     ((last : ℕ) → last ≤ bound → may_follow last id ≡ true) → ((last : ℕ) → order_after last id ≤ next) → set [] ≡ p → bound ≤ next →
     (length (vector_text text xs) < 2 ^ 32 → section_form false p id (vector_text text xs) (set (map f xs))) → (length (vector_text text xs) < 2 ^ 32 → W → small_form false id (vector_text text xs)) → length (vector_text text xs) < 2 ^ 32 →
@@ -59,7 +60,7 @@ map_id (x ∷ xs) = ap (λ t. x ∷ t) (map_id xs)
 pub each_short : {A : Type 0} (text : A → List ℕ) (xs : List A) → length (vector_text text xs) < 2 ^ 32 → length (each_text text xs) < 2 ^ 32
 each_short text xs h = omega (arith, h, length-append (u32_text (length xs)) (each_text text xs))
 
--- items that are spelled as they are
+-- A vector of items whose encodings encode the items themselves.
 items : TextLaws → {A : Type 0} (P : A → Type 0) (spells : List ℕ → A → Type 0) (text : A → List ℕ) (xs : List A) → ((x : A) → 0 < length (text x)) → ((x : A) → P x → length (text x) < 2 ^ 32 → spells (text x) x) →
     Every P xs → length (vector_text text xs) < 2 ^ 32 → Vector spells (vector_text text xs) (map (λ (x : A). x) xs)
 items laws P spells text xs some spelled h few =
@@ -170,7 +171,8 @@ parted a b h = (omega (arith, h, length-append a b), omega (arith, h, length-app
 
 -- ---- each section
 
--- what a content spells is one list, so that it is within a limit where this one is
+-- The content of a section encodes only one list, so every list that it encodes is within a limit
+-- if one is.
 small_items : {A : Type 0} (spells : List ℕ → A → Type 0) (S : List A → Type 0) (c : List ℕ) (xs : List A) → IsPrefixFree spells → Vector spells c xs → S xs → Limited (Vector spells) S c
 small_items spells S c xs free v s = λ ys h. subst S (one_whole (Vector spells) (vector_prefix_free free) c xs ys v h) s
 
@@ -181,7 +183,7 @@ every_code : (fs : List Func) → Every HasSmallCode fs → Every SmallCode (map
 every_code [] h = tt
 every_code (f ∷ fs) h = (h.0, every_code fs h.1)
 
--- that no encoding of an item goes on as another is a law of wasm_read_spec
+-- The encodings of items are prefix-free by a law of wasm_read_spec.
 module _ (laws : TextLaws) (free : ItemsArePrefixFree) where
   types_form : (m : Module) → InRange m → length (vector_text func_type_text m.types) < 2 ^ 32 → section_form false nothing 1 (vector_text func_type_text m.types) (p1 m)
   unfolding section_form
@@ -387,7 +389,7 @@ all_sections laws free m r one s =
     let r2 = imports_more laws free m (p12 m) (t3 m) r s.imports.size r3 in
     types_more laws free m (p12 m) (t2 m) r s.types.size r2
 
--- how long the sections are where the whole is short
+-- The sections of a short module are short.
 pub record SectionLengths (m : Module) : Type 0 where
   pub types : length (list_section 1 func_type_text m.types) < 2 ^ 32
   pub imports : length (list_section 2 import_text m.imports) < 2 ^ 32
@@ -450,7 +452,7 @@ plain_spelled laws free m r one s =
     let a = all_sections laws free m r one s 0 (omega arith) in
     (a.0, p12 m, (header, t1 m, refl, a.1, plain_regrouped m), a.2, rules m, tree_again m)
 
--- and within the limits, where the tree is
+-- The canonical encoding is within the limits if the tree is.
 pub plain_within : TextLaws → ItemsArePrefixFree → FramesAreUnique → (m : Module) → InRange m → IsTrue (memory_zero_funcs m.funcs) → SmallSizes m → WithinLimits m → Within (plain m) false
 plain_within laws free unique m r one s w =
     let a = all_sections laws free m r one s 0 (omega arith) in

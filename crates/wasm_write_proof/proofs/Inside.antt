@@ -1,4 +1,5 @@
--- What is in range in an instruction: its operands, its other numbers, and what it holds.
+-- The parts of an instruction that is in range: its operands, its other numbers, and the
+-- instructions that it holds.
 use Rattle.base_lists.proofs.Common.{◌≡◌, arith, ℕ, Bool, true, false, ◌||◌, not, nat_eq, List, [], ◌∷◌, ◌++◌, refl, sym, ap, ◌∙◌, subst, list_all, if◌then◌else◌, nat_tests, and_from, left_true, right_true}
 use Rattle.base_lists.specs.Every.{Every}
 use Rattle.wasm_tree_spec.specs.Prelude.{Space, Memories, Operand, BlockType, Instr, fold_out-Instr, map-Instr, Block, Loop, If, outs-Block, outs-Loop, outs-If, same_space, operands, operands_of, block_operands, held, map_operands, operands_pass, all_operands_pass, is_memory_zero, memory_zero_all}
@@ -106,7 +107,7 @@ loop_in inside ty body h k = of_layer inside (Loop ty body) (subst LayerInRange 
 pub if_in : PassesInside → (ty : BlockType) (body other : List Instr) → Small (block_operands ty) → all_spellable body ≡ true → all_spellable other ≡ true → spellable (If ty body other) ≡ true
 if_in inside ty body other h k l = of_layer inside (If ty body other) (subst LayerInRange (sym (outs-If ty body other)) (h, refl, joined_in body other k l))
 
--- ---- code in range that names memory 0 alone has a canonical encoding, and what is spelled is in range ----
+-- ---- code in range that names memory 0 alone, and encoded code ----
 
 both_spelled : (s : Space) (n : ℕ) → small n ≡ true → not (same_space s Memories) || nat_eq n 0 ≡ true → (if same_space s Memories then nat_eq n 0 else small n) ≡ true
 both_spelled s n h k = by_space (same_space s Memories) k

@@ -1,4 +1,4 @@
--- The plain texts of types, constant expressions and what the sections hold spell them.
+-- The canonical encodings of types, constant expressions and the items of sections encode them.
 use Rattle.base_lists.proofs.Common.{◌≡◌, ℕ, ◌<◌, ◌^◌, List, [], ◌∷◌, ◌++◌, length, Bool, true, false, Option, Some, None, refl, arith, append_assoc, IsUtf8}
 use Rattle.base_lists.proofs.Every.{every_of}
 use Rattle.std.proofs.Common.{length-append}

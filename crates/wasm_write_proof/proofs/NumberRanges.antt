@@ -1,4 +1,4 @@
--- Each number that is spelled is in the range of its type.
+-- Each encoded number is in the range of its type.
 use Rattle.base_lists.proofs.Common.{◌≡◌, ℕ, ◌<◌, ◌^◌, List, [], ◌∷◌, Bool, true, false, ℤ, pos, negsuc, sym, subst, arith, lt-ltb, ints}
 use Rattle.wasm_bytes.specs.Prelude.{Signed, IsWithin, U32, Each, Vector}
 use Rattle.wasm_bytes.specs.Numbers.{Unsigned}
@@ -7,7 +7,7 @@ use Rattle.base_lists.specs.Every.{Every}
 use Rattle.wasm_read_spec.specs.Prelude.{MadeFrom, When, Never}
 use Rattle.wasm_write_proof.specs.Ranges.{small, small_signed, IsU32, EncodesOnly}
 
--- what laws of wasm_bytes and wasm_tree say of numbers that bytes encode, and of operands
+-- The laws of wasm_bytes on numbers that bytes encode, and a law of wasm_tree on operands.
 pub record RangeLaws : Type 0 where
   pub unsigned : (bits : ℕ) (text : List ℕ) (n : ℕ) → Unsigned bits text n → n < 2 ^ bits
   pub signed : (bits : ℕ) (text : List ℕ) (z : ℤ) → Signed bits text z → IsWithin bits z

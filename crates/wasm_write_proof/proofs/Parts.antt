@@ -1,4 +1,4 @@
--- Spellings of numbers, vectors and sized contents by their plain texts.
+-- The canonical encodings of numbers, vectors and sized contents encode them.
 use Rattle.base_lists.proofs.Common.{◌≡◌, ℕ, ◌<◌, ◌≤◌, ◌^◌, List, [], ◌∷◌, ◌++◌, map, length, true, ℤ, pos, negsuc, refl, sym, ap, ◌∙◌, subst, arith, append_assoc, ⊎_elim, ltb-true, lt-ltb, le-ltb, cases_lt, ints, length-map}
 use Rattle.std.proofs.Common.{length-append}
 use Rattle.wasm_bytes.specs.Prelude.{Signed, IsWithin, u32_text, s32_text, s64_text, sized_text, U32, Each, Vector, Sized}
@@ -8,7 +8,7 @@ use Rattle.wasm_write_spec.specs.PlainValues.{each_text, vector_text}
 use Rattle.base_lists.specs.Every.{Every}
 use Rattle.wasm_write_proof.specs.Ranges.{small, small_signed}
 
--- what laws of wasm_bytes and wasm_tree say of the encodings of numbers, and of operands
+-- The laws of wasm_bytes on the encodings of numbers, and a law of wasm_tree on operands.
 pub record TextLaws : Type 0 where
   pub u32 : (n : ℕ) → n < 2 ^ 32 → IsShortest U32 (u32_text n) n
   pub s32 : (z : ℤ) → IsWithin 32 z → IsShortest (Signed 32) (s32_text z) z
@@ -39,7 +39,7 @@ pub within_64 : (z : ℤ) → small_signed 63 z ≡ true → IsWithin 64 z
 within_64 (pos n) h = let k = ltb-true n (2 ^ 63) h in (omega (arith, ints), omega (arith, ints))
 within_64 (negsuc n) h = let k = ltb-true n (2 ^ 63) h in (omega (arith, ints), omega (arith, ints))
 
--- a small number in one byte
+-- A number below 128 is encoded by one byte.
 pub flag_spells : (n : ℕ) → n < 128 → U32 (n ∷ []) n
 flag_spells n h = let k : n < 2 ^ 32 = omega arith in (h, rw (lt-ltb n (2 ^ 32) k))
 
@@ -64,7 +64,7 @@ pub each_join : {A : Type 0} (spells : List ℕ → A → Type 0) (xs ys : List 
 each_join spells [] ys a b one two = rw one two
 each_join spells (x ∷ xs) ys a b one two = (one.0, one.1 ++ b, one.2, each_join spells xs ys one.1 b one.3 two, ap (λ t. t ++ b) one.4 ∙ append_assoc one.0 one.1 b)
 
--- items with a text of at least one byte each are no more than the bytes
+-- There are at most as many items as bytes if each item is encoded by at least one byte.
 pub count_below : {A : Type 0} (text : A → List ℕ) (xs : List A) → ((x : A) → 0 < length (text x)) → length xs ≤ length (each_text text xs)
 count_below text [] some = omega arith
 count_below text (x ∷ xs) some = let h = count_below text xs some in let k = some x in omega (arith, h, k, length-append (text x) (each_text text xs))
@@ -83,7 +83,8 @@ vector_mapped laws f spells text xs some few h =
 
 -- ---- what holds of every item
 
--- where each is known, and each text is part of a short one
+-- A property of items with short encodings holds of every item if the encoding of all of them is
+-- short.
 pub every_short : {A : Type 0} (P Q : A → Type 0) (text : A → List ℕ) (xs : List A) → ((x : A) → P x → length (text x) < 2 ^ 32 → Q x) → length (each_text text xs) < 2 ^ 32 → Every P xs → Every Q xs
 every_short P Q text [] f few h = tt
 every_short P Q text (x ∷ xs) f few h =

@@ -1,4 +1,4 @@
--- The plain texts of element and data segments spell them.
+-- The canonical encodings of element and data segments encode them.
 use Rattle.base_lists.proofs.Common.{◌≡◌, ℕ, ◌<◌, ◌≤◌, ◌^◌, List, [], ◌∷◌, ◌++◌, length, true, true≢false, ◌&&◌, ⊎_elim, refl, sym, arith, append_assoc, ◌==◌, eqb-true, cases_Bool, left_true, right_true}
 use Rattle.base_lists.proofs.Every.{every_with}
 use Rattle.std.proofs.Common.{length-append}

@@ -1,4 +1,5 @@
--- Where the canonical encoding of a module has fewer than 2^32 bytes, each vector and each written size is below 2^32.
+-- If the canonical encoding of a module has fewer than 2^32 bytes, each vector and each written
+-- size is below 2^32.
 use Rattle.base_lists.proofs.Common.{◌≡◌, ℕ, suc, ◌+◌, ◌<◌, ◌^◌, List, [], ◌∷◌, ◌++◌, map, length, Bool, true, refl, ap, ◌∙◌, subst, arith, append-nil, ⊎_elim, list_all, list_all-map, and_from, cases_Bool}
 use Rattle.base_lists.proofs.Every.{every_of}
 use Rattle.std.proofs.Common.{length-append}

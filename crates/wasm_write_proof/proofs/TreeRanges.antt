@@ -1,4 +1,4 @@
--- What is spelled in a file is in range.
+-- The numbers of an encoded file are in range.
 use Rattle.base_lists.proofs.Common.{◌≡◌, ℕ, List, [], ◌∷◌, sym, subst, arith, true, false, ◌==◌, map}
 use Rattle.wasm_bytes.specs.Prelude.{U32, Vector, Section, Sized}
 use Rattle.wasm_tree_spec.specs.Prelude.{TableType, GlobalDef, DataSeg, LocalGroup, Func, Module}

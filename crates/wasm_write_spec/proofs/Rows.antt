@@ -1,5 +1,6 @@
--- Small modules and their parts, spelled: the bytes that the standard's grammar gives (Core 2.0, chapter 5), written by hand; a memory
--- other than 0 is named as where there are several.
+-- The encodings of small modules and their parts, computed: each is compared with bytes that were
+-- written by hand from the grammar of the standard (Core 2.0, chapter 5). A memory other than
+-- memory 0 is written as in modules with several memories.
 use Rattle.base_lists.proofs.Common.{◌≡◌, refl, ℕ, List, [], ◌∷◌, Bool, false, true, Option, Some, None, map, pos, negsuc}
 use Rattle.wasm_num.specs.declared.UnOp.TheVariants as un
 use Rattle.wasm_num.specs.declared.BinOp.TheVariants as bin
@@ -43,11 +44,11 @@ limits min max = record { min = min; max = max }
 abbrev segment_of : ElemMode → RefType → List ConstExpr → ElemSeg
 segment_of mode ty items = record { mode = mode; ty = ty; items = items }
 
--- the bytes "hi"
+-- A data segment of the bytes "hi".
 abbrev hi : DataMode → DataSeg
 hi mode = record { mode = mode; bytes = 0x68 ∷ 0x69 ∷ [] }
 
--- a function with this body, and one data segment
+-- A module with a function of this body and one data segment.
 abbrev with_data : List Instr → Module
 with_data body = record empty { types = record { params = []; results = [] } ∷ []; funcs = func 0 body ∷ []; datas = hi segment.Passive ∷ [] }
 
@@ -63,7 +64,8 @@ a_function_that_is_exported : plain (record empty { types = record { params = []
 unfolding plain func_type_text val_code export_text export_desc_text entry_text unsigned_text signed_text out-Instr denote.Hole.Carrier.out
 a_function_that_is_exported = simp (fold_out-Instr (List ℕ) instr_step, fold_out-Instr Bool (any_pass_step names_data)) refl
 
--- types, imports, a table, a memory, globals, an export and a start, in the order of the sections
+-- A type, imports, a table, a memory, globals, an export and a start function are written in the
+-- order of their sections.
 what_is_not_code : plain (record empty {
   types = record { params = valt.I64 ∷ valt.Ref ref.Func ∷ []; results = [] } ∷ [];
   imports = record { «module» = 0x61 ∷ []; field = 0x62 ∷ 0x63 ∷ []; desc = import.Func 0 } ∷ record { «module» = []; field = 0x64 ∷ []; desc = import.Memory (limits 1 (Some 128)) } ∷ [];
@@ -158,7 +160,8 @@ values_and_variables : instrs_text (i.Drop ∷ i.Select ∷ i.SelectTyped (valt.
 unfolding val_code unsigned_text signed_text out-Instr denote.Hole.Carrier.out
 values_and_variables = simp (fold_out-Instr (List ℕ) instr_step) refl
 
--- the last to memory 1: 64 is added to the alignment, and the memory comes before the offset
+-- The last store is to memory 1: 64 is added to its alignment, and the memory index comes before
+-- the offset.
 loads_and_stores : instrs_text (i.Load load.I32Load (at 2 300 0) ∷ i.Load load.I64Load8U (at 0 1 0) ∷ i.Store store.I32Store16 (at 1 64 0) ∷ i.Store store.I64Store (at 3 5 1) ∷ []) ≡
     0x28 ∷ 0x02 ∷ 0xAC ∷ 0x02 ∷ 0x31 ∷ 0x00 ∷ 0x01 ∷ 0x3B ∷ 0x01 ∷ 0x40 ∷ 0x37 ∷ 0x43 ∷ 0x01 ∷ 0x05 ∷ []
 unfolding load_code store_code unsigned_text signed_text out-Instr denote.Hole.Carrier.out

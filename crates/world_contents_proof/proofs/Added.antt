@@ -1,4 +1,5 @@
--- Two related stores stay related where a module is added to one of them and its segments write only what is related to nothing.
+-- Two related stores stay related where a module is added to one of them and its segments write
+-- only what is related to nothing.
 use Rattle.base_lists.proofs.Common.{◌≡◌, ℕ, suc, ◌<◌, ◌≤◌, List, [], ◌∷◌, ◌++◌, length, Option, Some, refl, subst, arith, slice_get, slice_get_within, append-nil, append_left, append_at_left, set_other, number_is}
 use Rattle.wasm_tree_spec.specs.Prelude.{Space, Functions, ElementSegments, DataSegments, ElemSeg, DataSeg, Module}
 use Rattle.wasm_meaning.specs.Prelude.{Inst, Store, ExternalValue, Filled, PlacedSegment, numbers, const_value, store_with, joined_stores, segments_in, run_elem_with, run_data_with, and_then, one_by_one, Added, added, own_segments, next_inst}
@@ -15,7 +16,7 @@ right_is (both {b = b} r) = (b, refl)
 left_is : {A B : Type 0} {P : A → B → Type 0} {o : Option A} {p : Option B} → BothRel P o p → (a : A) × (o ≡ Some a)
 left_is (both {a = a} r) = (a, refl)
 
--- items that are related in two lists are so still where more comes behind both
+-- Related items of two lists are still related after both lists are extended at their ends.
 both_joined : {A B : Type 0} {P : A → B → Type 0} (xs us : List A) (ys vs : List B) (a b : ℕ) → BothRel P (slice_get xs a) (slice_get ys b) → BothRel P (slice_get (xs ++ us) a) (slice_get (ys ++ vs) b)
 both_joined xs us ys vs a b r =
     let x = left_is r in
@@ -23,7 +24,7 @@ both_joined xs us ys vs a b r =
     rw (append_left xs us a (slice_get_within xs a x.0 x.1), append_left ys vs b (slice_get_within ys b y.0 y.1)) r
 
 module _ (R : Pairing) where
-  -- stores stay related where more comes behind both
+  -- Related stores are still related after both are extended.
   joined_both : {s z : Store} (t u : Store) → StoreRel R s z → StoreRel R (joined_stores s t) (joined_stores z u)
   joined_both {s} {z} t u like = record {
     types = λ {a} {b} r. let same = funcs a b r in rw (same.0, same.1) (like.types r);
@@ -56,23 +57,24 @@ module _ (R : Pairing) where
 pub number_past : (from count n a : ℕ) → slice_get (numbers from count) n ≡ Some a → from ≤ a
 number_past from count n a h = omega (arith, number_is from count n a h)
 
--- what adding a module comes to: what it defines comes behind what is there, and then its segments are run
+-- Adding a module appends what the module defines to the store, and then copies its segments.
 pub added_is : (s : Store) (m : Module) (things : List ExternalValue) (a : Added) → added s m things ≡ Some a →
     let i = next_inst s m things in (t : Store) × (store_with (const_value s.globals i) m i ≡ Some t) × (record { inst = i; filled = own_segments (const_value s.globals i) m i (joined_stores s t) } ≡ a)
 added_is s m things a h = grind arith
 
 module _ (related alone : Space → ℕ → Type 0) (never : (k : Space) (a : ℕ) → alone k a → related k a → ⊥) where
-  -- what each of two runs keeps, the one after the other keeps
+  -- What each of two steps of copying keeps is kept by one after the other.
   then_kept : (s : Store) (f : Filled) (g : Store → Filled) → RelatedStay related s f.store → ((t : Store) → RelatedStay related t (g t).store) → RelatedStay related s (and_then f g).store
   then_kept s f g h next = grind (arith, next f.store)
 
-  -- segments that are run in turn keep what each of them keeps
+  -- What the copy of each segment keeps is kept by the copies of all segments in turn.
   turn_kept : {A : Type 0} (run : Store → PlacedSegment A → Filled) (i : Inst) (ns : List ℕ) (xs : List A) →
       ((n a : ℕ) (x : A) → slice_get ns n ≡ Some a → slice_get xs n ≡ Some x → (s : Store) → RelatedStay related s (run s (record { part = 0; inst = i; address = a; segment = x })).store) → (s : Store) → RelatedStay related s (one_by_one run s (segments_in 0 i ns xs)).store
   turn_kept run i (a ∷ ns) (x ∷ xs) h s = then_kept s _ (λ s. one_by_one run s (segments_in 0 i ns xs)) (h 0 a x refl refl s) (turn_kept run i ns xs (λ n. h (suc n)))
   turn_kept run i _ _ h s = assumption
 
-  -- If all related segments were there before, and those of the added module write only what is alone, then what is related is kept.
+  -- What is related is kept if all related segments were there before, and the segments of the
+  -- added module write only tables and memories that are related to nothing.
   added_kept : (s : Store) (m : Module) (things : List ExternalValue) (a : Added) → added s m things ≡ Some a →
       ((n : ℕ) → related ElementSegments n → n < length s.elems) → ((n : ℕ) → related DataSegments n → n < length s.datas) → WritesAlone alone m a.inst → (t : Store) × RelatedStay related (joined_stores s t) a.filled.store
   added_kept s m things a h elems datas writes =

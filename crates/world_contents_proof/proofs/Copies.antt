@@ -1,19 +1,22 @@
--- Segments that are copied one after the other: what stands at each address is overwritten in order, and each segment that is copied is dropped.
+-- Segments that are copied one after the other: what is at each address is overwritten in order,
+-- and each segment that is copied is dropped.
 use Rattle.base_lists.proofs.Common.{◌≡◌, ◌≢◌, ℕ, suc, ◌+◌, ◌-◌, ◌<◌, List, [], ◌∷◌, Option, Some, false, refl, ap, ◌∙◌, arith, add-zero, nat_tests, slice_get, slice_get_within, is_some_there, set_at, set_other}
 use Rattle.wasm_meaning.specs.Prelude.{Store, Filled, and_then}
 use Rattle.world_contents_proof.specs.Leaves.{Copy, over, all_over}
 use Rattle.world_contents_proof.specs.Copies.{AreOf, IsOf, Kind, left, run, runs}
 
--- where two runs, one after the other, do not trap, neither traps, and what the second leaves is left
+-- Two steps of copying, one after the other, that do not trap: neither traps, and the store is the
+-- one that the second leaves.
 pub then_went : (f : Filled) (g : Store → Filled) → (and_then f g).trapped ≡ false → (f.trapped ≡ false) × ((g f.store).trapped ≡ false) × ((and_then f g).store ≡ (g f.store).store)
 then_went f g h = grind arith
 
 module _ {C S A : Type 0} (k : Kind C S A) where
-  -- each holder of the first store is in the second, with what `f` makes of its contents at its address
+  -- Each table or memory of the first store is in the second, with the contents that `f` makes of
+  -- its own.
   abbrev pub Written : Store → Store → (ℕ → List A → Option (List A)) → Type 0
   Written s t f = (a : ℕ) (c : C) → slice_get (k.holders s) a ≡ Some c → (xs : List A) × (f a (k.held c) ≡ Some xs) × (slice_get (k.holders t) a ≡ Some (k.holding c xs))
 
-  -- what one copy leaves
+  -- The store that one copy leaves.
   record Ran (s : Store) (n : ℕ) (c : Copy A) (e : S) (t : Store) : Type 0 where
     written : Written s t (λ a. over a c)
     here : slice_get (k.segments t) n ≡ Some (left k c e)
@@ -26,7 +29,7 @@ module _ {C S A : Type 0} (k : Kind C S A) where
     other = grind (arith, set_other);
   }
 
-  -- what all leave
+  -- The store that all the copies leave.
   pub record AllRan (s : Store) (n : ℕ) (cs : List (Copy A)) (t : Store) : Type 0 where
     pub written : Written s t (λ a. all_over a cs)
     pub each : (j : ℕ) (c : Copy A) (e : S) → slice_get cs j ≡ Some c → slice_get (k.segments s) (n + j) ≡ Some e → slice_get (k.segments t) (n + j) ≡ Some (left k c e)
@@ -45,7 +48,7 @@ module _ {C S A : Type 0} (k : Kind C S A) where
         earlier = grind arith;
       })
 
-  -- what is neither a holder nor a segment stays as it was
+  -- What is neither a table or memory nor a segment of the kind stays as it was.
   module _ {B : Type 0} (get : Store → B) (put : (s : Store) (a : ℕ) (c : C) → get (k.put s a c) ≡ get s) (drop : (s : Store) (n : ℕ) → get (k.drop s n) ≡ get s) where
     run_stays : (s : Store) (n : ℕ) (c : Copy A) → get (run k s n c).store ≡ get s
     run_stays s n c = grind arith

@@ -1,4 +1,5 @@
--- What the instantiation of one module leaves: what it defines behind what was there, and its segments copied.
+-- The store that the instantiation of one module leaves: what the module defines comes after what
+-- was there, and its segments are copied.
 use Rattle.base_lists.proofs.Common.{◌≡◌, ℕ, ◌+◌, List, [], ◌∷◌, ◌++◌, map, length, Option, Some, false, refl, ap, subst, ◌∙◌, append-nil, slice_get, same_Some, slice_get_within, all_there_at, and_then_is, append_at_left, append_right, map_at, map_from, arith}
 use Rattle.base_lists.specs.Options.{◌>>=◌}
 use Rattle.wasm_tree_spec.specs.Prelude.{ConstExpr, ElemMode, ElemSeg, DataMode, DataSeg, Module}
@@ -15,13 +16,14 @@ use Rattle.world_contents_proof.proofs.Copies.{all_ran, all_stay, then_went}
 
 -- ---- runs of copies ----
 
--- each in turn is the copy of its segment
+-- Segments that are each copied by `g` are run as the copies that `copy` makes of them.
 turns_are : {C S A X : Type 0} (k : Kind C S A) (i : Inst) (copy : X → Copy A) (g : Store → PlacedSegment X → Filled) → ((s : Store) (n : ℕ) (x : X) → g s (record { part = 0; inst = i; address = n; segment = x }) ≡ run k s n (copy x)) →
     (xs : List X) (s : Store) (n : ℕ) → one_by_one g s (segments_in 0 i (numbers n (length xs)) xs) ≡ runs k s n (map copy xs)
 turns_are k i copy g one [] s n = refl
 turns_are k i copy g one (x ∷ xs) s n = rw (one s n x, turns_are k i copy g one xs)
 
--- all segments of a module, each run in turn, are run as the copies of these
+-- All the segments of a module, each copied in turn, are run as the copies of element segments and
+-- then of data segments.
 pub copies_in_turn : (value : ConstExpr → Option Val) (m : Module) (i : Inst) (g : Store → PlacedSegment ElemSeg → Filled) (h : Store → PlacedSegment DataSeg → Filled) →
     ((s : Store) (n : ℕ) (e : ElemSeg) → g s (record { part = 0; inst = i; address = n; segment = e }) ≡ run tables s n (elem_copy value i e e.mode)) →
     ((s : Store) (n : ℕ) (d : DataSeg) → h s (record { part = 0; inst = i; address = n; segment = d }) ≡ run memories s n (data_copy value i d d.mode)) → (n k : ℕ) → i.elems ≡ numbers n (length m.elems) → i.datas ≡ numbers k (length m.datas) →
@@ -30,14 +32,16 @@ copies_in_turn _ m i g h elem_runs data_runs n k elems datas s = simp (elems, da
 
 -- ---- what the copies of one kind leave ----
 
--- What `after` has when the segments `xs` of a module were copied in a store that had what is in `before`, and then what is in `new`: each table or memory with the copies laid over it,
--- for each of `xs` what `result` says, and the segments of `before` as they were.
+-- What `after` has when the segments `xs` of a module were copied in a store that had what is in
+-- `before`, and then what is in `new`: each table or memory with the copies laid over it, for each
+-- of `xs` what `result` says, and the segments of `before` as they were.
 record CopiesLeave {C S A X : Type 0} (k : Kind C S A) (copy : X → Copy A) (result : X → Option S) (xs : List X) (before new after : Store) : Type 0 where
   holders : (a : ℕ) (c : C) → slice_get (k.holders before ++ k.holders new) a ≡ Some c → Stands (k.holders after) a (all_over a (map copy xs) (k.held c) >>= λ held. Some (k.holding c held))
   segments : (n : ℕ) (x : X) → slice_get xs n ≡ Some x → Stands (k.segments after) (length (k.segments before) + n) (result x)
   earlier : (n : ℕ) (e : S) → slice_get (k.segments before) n ≡ Some e → slice_get (k.segments after) n ≡ Some e
 
--- It has this, if the copies begin in a store `s` that has what is in `before` and then what is in `new`, and `after` has what they leave.
+-- The store `after` is such a store, if the copies begin in a store `s` that has what is in
+-- `before` and then what is in `new`, and leave `after`.
 copies_leave : {C S A X : Type 0} (k : Kind C S A) (copy : X → Copy A) (result : X → Option S) (xs : List X) (before new s after : Store) → k.holders s ≡ k.holders before ++ k.holders new → k.segments s ≡ k.segments before ++ k.segments new →
     ((n : ℕ) (x : X) → slice_get xs n ≡ Some x → (e : S) × (slice_get (k.segments new) n ≡ Some e) × (IsOf k (copy x) e × (result x ≡ Some (left k (copy x) e)))) →
     let f = runs k s (length (k.segments before)) (map copy xs) in f.trapped ≡ false → k.holders after ≡ k.holders f.store → k.segments after ≡ k.segments f.store → CopiesLeave k copy result xs before new after
@@ -52,14 +56,16 @@ copies_leave k copy result xs before new s after holders_are segments_are of wen
       earlier = λ j e h. rw (segments_end, all.earlier j (slice_get_within _ j e h), segments_are) (append_at_left _ _ j e h);
     }
 
--- the copy of an element segment is of what is allocated for the segment, and leaves of that what `elem_left` says
+-- The copy of an element segment copies what is allocated for the segment, and leaves of it what
+-- `elem_left` says.
 elem_is : (value : ConstExpr → Option Val) (i : Inst) (e : ElemSeg) (mode : ElemMode) (y : Elem) → elem_with value (record e { mode = mode }) ≡ Some y →
     IsOf tables (elem_copy value i e mode) y × (elem_left value (record e { mode = mode }) mode ≡ Some (left tables (elem_copy value i e mode) y))
 elem_is value i e (elem.Active x offset) y h = let r = and_then_is (all_there (λ x. value x >>= ref_of) e.items) _ y h in (r.1 ∙ ap (λ (y : Elem). Some y.items) (same_Some _ _ r.2), refl)
 elem_is value i e elem.Passive y h = (tt, h)
 elem_is value i e elem.Declarative y h = (tt, (and_then_is (all_there (λ x. value x >>= ref_of) e.items) _ y h).2)
 
--- the same of a data segment, with `data_left`
+-- The copy of a data segment copies what is allocated for the segment, and leaves of it what
+-- `data_left` says.
 data_is : (value : ConstExpr → Option Val) (i : Inst) (d : DataSeg) (mode : DataMode) → IsOf memories (data_copy value i d mode) (new_data d) × (Some (data_left d mode) ≡ Some (left memories (data_copy value i d mode) (new_data d)))
 data_is value i d (data'.Active x offset) = (refl, refl)
 data_is value i d data'.Passive = (tt, refl)
@@ -102,7 +108,7 @@ module _ (value : ConstExpr → Option Val) (m : Module) (i : Inst) (before t : 
         earlier_datas = datas.earlier;
       }
 
-  -- the same, where `g` and `h` run the segments in turn
+  -- The same holds if `g` and `h` copy the segments in turn.
   pub left_in_turn : (g : Store → PlacedSegment ElemSeg → Filled) (h : Store → PlacedSegment DataSeg → Filled) → ((s : Store) (n : ℕ) (e : ElemSeg) → g s (record { part = 0; inst = i; address = n; segment = e }) ≡ run tables s n (elem_copy value i e e.mode)) →
       ((s : Store) (n : ℕ) (d : DataSeg) → h s (record { part = 0; inst = i; address = n; segment = d }) ≡ run memories s n (data_copy value i d d.mode)) → i.elems ≡ numbers (length before.elems) (length m.elems) → i.datas ≡ numbers (length before.datas) (length m.datas) →
       (f : Filled) → f ≡ and_then (one_by_one g start (segments_in 0 i i.elems m.elems)) (λ s. one_by_one h s (segments_in 0 i i.datas m.datas)) → f.trapped ≡ false → Leaves value m i before f.store
@@ -141,7 +147,8 @@ added_leaves s m things a h good =
     rw (← x.2) (left_in_turn _ m i s x.0 x.1 (λ s task. run_elem_with _ s task task.segment.mode) (λ s task. run_data_with _ s task task.segment.mode)
     (λ s n e. elem_runs _ i s n e e.mode) (λ s n d. data_runs _ i s n d d.mode) refl refl _ refl (rw (← x.2) at good))
 
--- a world of one module, whatever names it shows, with its instance and its allocated store
+-- The law on what is left, for a world of one module with any view, given its instance and its
+-- allocated store.
 world_left : (env : Environment) (m : Module) (view : List (Text × Entity)) (b : Begun) (i : Inst) (s : Store) (names : List (Text × ExternalValue)) → stores_from env (one m) (i ∷ []) (own_store env) 0 (one m) (i ∷ []) ≡ Some s →
     begun env (record { parts = one m; view = view }) (i ∷ []) names (segments env (one m) (i ∷ []) s) ≡ b → IsInst env (one m) 0 m i → b.trapped ≡ false → Leaves (value_of env (one m) (i ∷ []) 0) m i (own_store env) b.store
 world_left env m view b i s names made is inst good =

@@ -15,18 +15,18 @@ to a n xs = contents (Some a) (Some n) (Some xs)
 abbrev zeros : List ℕ
 zeros = 0 ∷ 0 ∷ 0 ∷ 0 ∷ []
 
--- the later lies over the earlier
+-- A later copy overwrites an earlier one.
 in_order : all_over 5 (to 5 1 (7 ∷ 8 ∷ []) ∷ to 5 2 (9 ∷ []) ∷ []) zeros ≡ Some (0 ∷ 7 ∷ 9 ∷ 0 ∷ [])
 in_order = refl
 
 in_the_other_order : all_over 5 (to 5 2 (9 ∷ []) ∷ to 5 1 (7 ∷ 8 ∷ []) ∷ []) zeros ≡ Some (0 ∷ 7 ∷ 8 ∷ 0 ∷ [])
 in_the_other_order = refl
 
--- what is copied elsewhere, or nowhere, is not here
+-- A copy to another address, or to none, leaves the contents as they are.
 elsewhere : all_over 5 (to 6 1 (7 ∷ 8 ∷ []) ∷ nothing ∷ []) zeros ≡ Some zeros
 elsewhere = refl
 
--- it fits up to the end, and not past it; nor does one without an offset
+-- A copy up to the end is in bounds; one past the end is not, nor is one without an offset.
 up_to_the_end : over 5 (to 5 2 (7 ∷ 8 ∷ [])) zeros ≡ Some (0 ∷ 0 ∷ 7 ∷ 8 ∷ [])
 up_to_the_end = refl
 
@@ -41,7 +41,8 @@ without_an_offset = refl
 abbrev segment : ElemMode → ElemSeg
 segment mode = record { ty = reft.Func; items = const.Func 0 ∷ []; mode = mode }
 
--- its segments are copied to these offsets in its table, and the last, a passive one, nowhere
+-- The module's segments are copied to these offsets in its table; the last one, which is passive,
+-- is not copied.
 abbrev with_table : List ℕ → Module
 with_table offsets = record {
   types = record { params = []; results = [] } ∷ [];
@@ -56,14 +57,14 @@ with_table offsets = record {
   datas = [];
 }
 
--- the tables after it was added to nothing, and whether a segment trapped
+-- The tables after the module was added to an empty store, and whether a segment trapped.
 abbrev after : List ℕ → Option (List Table × Bool)
 after offsets = added (own_store []) (with_table offsets) [] >>= λ a. Some (a.filled.store.tables, a.filled.trapped)
 
 abbrev table : List (Option ℕ) → List Table
 table funcs = record { ty = reft.Func; most = None; slots = map FuncRef funcs } ∷ []
 
--- its function in slot 1 alone, or in slots 1 and 2; a passive segment is copied nowhere
+-- The module's function is in slot 1 alone, or in slots 1 and 2; the passive segment is not copied.
 once : after (1 ∷ []) ≡ Some (table (None ∷ Some 0 ∷ None ∷ []), false)
 unfolding wrapped
 once = refl
@@ -76,7 +77,7 @@ up_to_its_end : after (2 ∷ []) ≡ Some (table (None ∷ None ∷ Some 0 ∷ [
 unfolding wrapped
 up_to_its_end = refl
 
--- past the end it traps, and the law says nothing
+-- A copy past the end traps, and the law says nothing about it.
 past_its_end : after (3 ∷ []) ≡ Some (table (None ∷ None ∷ None ∷ []), true)
 unfolding wrapped
 past_its_end = refl

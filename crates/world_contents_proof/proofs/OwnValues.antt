@@ -1,15 +1,16 @@
--- What constant expressions of a module alone denote, over the entities of the environment.
+-- The values of the constant expressions of a module alone, over the environment's own globals.
 use Rattle.base_lists.proofs.Common.{◌≡◌, ℕ, zero, suc, ◌+◌, ◌<◌, List, [], ◌∷◌, length, Option, Some, None, Bool, true, false, cond, refl, arith, option_and_then, slice_get, and_then_is, same_Some, slice_get_within, slice_get_none}
 use Rattle.wasm_tree_spec.specs.Prelude.{Space, Globals, ConstExpr, Import, Module}
 use Rattle.wasm_tree.specs.declared.module.ConstExpr.TheVariants as const
 use Rattle.wasm_meaning.specs.Prelude.{Inst, Val, has_kind, places, space_index, imports_of, Environment, own_globals, const_value, value_of, value_of_read, read_of}
 use Rattle.world_simulation.specs.Prelude.{one, read_in, IsInst, imports, defines, IndicesNameImportsOrDefinitions, SpacesAreImportsAndDefinitions}
 
--- an import of the list has the place `n`, counted from `from`, and the index `x` among those of its kind
+-- An import of the list has the place `n`, counted from `from`, and the index `x` among those of
+-- its kind.
 abbrev Indexed : Space → List Import → (from x n : ℕ) → Type 0
 Indexed k is from x n = (z : ℕ) × (n ≡ from + z) × (i : Import) × (slice_get is z ≡ Some i) × (space_index is z k ≡ x)
 
--- the place of an import of a kind, and its index
+-- The import whose place is entry `x` of the places of its kind has the index `x`.
 place_index : (k : Space) (is : List Import) (from x n : ℕ) → slice_get (places (has_kind k) is from) x ≡ Some n → Indexed k is from x n
 place_index k [] from x n h = cc
 place_index k (i ∷ is) from x n h = by (λ x. place_index k is (suc from) x n) (has_kind k i) refl x h
@@ -23,7 +24,7 @@ place_index k (i ∷ is) from x n h = by (λ x. place_index k is (suc from) x n)
     by more false e x h = let r = more x h in (suc r.0, omega (arith, r.1), r.2, r.3, rw e r.4)
 
 module _ (spaces : SpacesAreImportsAndDefinitions) (indices : IndicesNameImportsOrDefinitions) (env : Environment) (m : Module) (i : Inst) (a : IsInst env (one m) 0 m i) where
-  -- a global of the module that has a value among the environment's own is an import
+  -- A global of the module that has a value among the environment's own is an import.
   own_within : (x : ℕ) (v : Val) → const_value (own_globals env) i (const.Global x) ≡ Some v → x < length (imports_of Globals m)
   own_within x v h =
       let c = and_then_is (slice_get i.globals x) _ v h in

@@ -1,4 +1,5 @@
--- Stores that extend others: nothing written is the least, one after the other, and one place that is written.
+-- Stores that extend others: a store extends itself, an extension of an extension is one, and a
+-- write at one place may be one.
 use Rattle.base_lists.proofs.Common.{◌≡◌, ℕ, ◌≤◌, List, length, refl, sym, ap, subst, ◌∙◌, arith, slice_set, slice_get, Some, length-set, same_Some}
 use Rattle.wasm_meaning.specs.Prelude.{Table, Memory, Global, Store, Change, Keep, SetGlobal, SetMemory, SetTable, DropElem, DropData, changed, no_items, no_bytes}
 use Rattle.world_extension_proof.specs.Extends.{TableExtends, MemoryExtends, GlobalExtends, Extends}
@@ -43,11 +44,11 @@ and_then s t u h k = record {
 
 -- ---- a change ----
 
--- one place is written with what extends the old
+-- A list extends another if one place is written with what extends the old item.
 each_put : {A : Type 0} (P : A → A → Type 0) (xs : List A) (n : ℕ) (old new : A) → ((x : A) → P x x) → slice_get xs n ≡ Some old → P old new → EachRelated P xs (slice_set xs n new)
 each_put P xs n old new same there p = each_set P xs n new same (λ x e. subst (λ z. P z new) (same_Some old x (sym there ∙ e)) p)
 
--- what it writes extends what stood there
+-- The change writes what extends the entity that was at its address.
 pub data Extending (s : Store) : Change → Type 0 where
   keeps : Extending s Keep
   global : {a : ℕ} {g h : Global} → slice_get s.globals a ≡ Some g → GlobalExtends g h → Extending s (SetGlobal a h)

@@ -85,7 +85,7 @@ turn_fills : {A : Type 0} (run : Store → PlacedSegment A → Filled) → ((s :
 turn_fills run h [] s = stays s
 turn_fills run h (x ∷ xs) s = then_fills s (run s x) (λ s. one_by_one run s xs) (h s x) (λ t. turn_fills run h xs t)
 
--- segments of several parts
+-- The segments of several parts extend the store.
 all_fill : (value : ℕ → ConstExpr → Option Val) (es : List (PlacedSegment ElemSeg)) (ds : List (PlacedSegment DataSeg)) (s : Store) →
     Fills s (and_then (one_by_one (λ s task. run_elem_with (value task.part) s task task.segment.mode) s es) (λ s. one_by_one (λ s task. run_data_with (value task.part) s task task.segment.mode) s ds))
 all_fill value es ds s =
@@ -99,7 +99,7 @@ own_segments_fill value m i s = all_fill (λ _. value) (segments_in 0 i i.elems 
 pub segments_fill : SegmentsExtend
 segments_fill env parts insts s = all_fill (value_of env parts insts) (placed_elems 0 parts insts) (placed_datas 0 parts insts) s
 
--- a module that is added where what it defines is `t`
+-- The result of adding a module, if what the module defines is `t`.
 abbrev pub added_with : Store → Module → List ExternalValue → Store → Added
 added_with s m things t = record { inst = next_inst s m things; filled = own_segments (const_value s.globals (next_inst s m things)) m (next_inst s m things) (joined_stores s t) }
 
@@ -124,7 +124,7 @@ loaded_stays w i m false s = by (secondary_added w i m s) refl
     by (Some a) e = let things = and_then_is _ (added s m) a e in added_extends s m things.0 a things.2
 
 module _ (writes : StepsWriteWhatTheyTouch) (w : LoaderWorld) (q : LoaderRun) (begun : IsBegun q.run.phase) where
-  -- what the placeholder's call comes to
+  -- The call of a placeholder keeps what is in the store, whether or not a module is loaded for it.
   called_kept : (r : Run) (slot : ℕ) (vs : List Val) (s : Store) (es : List Entry) → IsBegun r.phase → StaysIn q.run.store s → (o : Option (LoaderRun × Option Event)) → placeholder_called w q r slot vs s es ≡ o →
       LoaderKept q (unwrap_or o (loader_with q (run_after (record r { store = s; entries = es }) Traps)))
   called_kept r slot vs s es b h None e =

@@ -1,11 +1,12 @@
--- A run that is over takes moves on the environment's own entities alone, and no step of the machine follows.
+-- A run that is over takes moves on the environment's own entities alone, and no step of the
+-- machine follows.
 use Rattle.base_lists.proofs.Common.{◌≡◌, ℕ, List, [], ◌∷◌, Option, Some, None, cond, refl, ap, ◌∙◌, slice_get, nat_eq, with_there, either_all}
 use Rattle.wasm_meaning.specs.Prelude.{overwrite, memory_may_grow, table_may_grow, Shown, ExternalValue, FuncAt, TableAt, MemoryAt, GlobalAt, received, received_ref, Move, Call, Invoke, Take, Answer, Refuse, Grant, Deny, Get, Size, Set, Extend, Run, Out, Transition, Steps, Makes, place_at, got}
 use Rattle.wasm_meaning.specs.Prelude.{size_of, byte_of, set, extended, moved, or_bad, is_taken_closed, closed_move, in_phase, transition_at, transition}
 use Rattle.base_lists.specs.Related.{IfThere, absent, present}
 use Rattle.world_extension_proof.specs.Over.{IsOver, RunsThatAreOverStaySo}
 
--- it is made at once, and leaves the stack and the phase
+-- The transition is made without a step of the machine, and leaves the stack and the phase.
 data MadeAlike (r : Run) : Transition → Type 0 where
   alike : {o : Out} → o.0.phase ≡ r.phase → o.0.entries ≡ r.entries → MadeAlike r (Makes o)
 

@@ -1,5 +1,5 @@
--- What the step of a frame does extends the store: by the law of what it writes, in which a global that is set keeps its type, a memory its limits, and a table its
--- type, limits and length.
+-- A step of a frame extends the store, by the law of what it writes: a global that is set keeps its
+-- type, a memory its limits, and a table its type, limits and length.
 use Rattle.base_lists.proofs.Common.{◌≡◌, sym, ◌∙◌, refl, arith, overwritten_length}
 use Rattle.std.proofs.lemmas.Bool.{true≢false}
 use Rattle.wasm_meaning.specs.Prelude.{Outcome, Gives, Traps, IllTyped, Store, Frame, Change, Act, Goes, Calls, AsksGrow, Ends, act, Touched, Writes, a_global, touched, ActWrites, StepsWriteWhatTheyTouch}
@@ -7,7 +7,7 @@ use Rattle.wasm_meaning.specs.Touched.{nothing, bytes, slots, an_elem, a_data}
 use Rattle.wasm_meaning.proofs.Outcomes.{AllOf, ill_typed, stopped, just}
 use Rattle.world_extension_proof.proofs.Extends.{Extending, keeps, global, memory, table, elem_drops, data_drops}
 
--- what the frame does extends the store
+-- The act of the frame extends the store.
 abbrev pub Grows : Store → Act → Type 0
 Grows s (Goes c h) = Extending s c
 Grows s _ = Unit {0}

@@ -15,7 +15,7 @@ use Rattle.world_extension_proof.proofs.Extends.{stays, and_then, Extending, glo
 use Rattle.world_extension_proof.proofs.StepExtends.{Grows, act_all}
 use Rattle.wasm_meaning.proofs.Outcomes.{with_is, with_found, cond_all, ill_typed, AllOf, stopped, just}
 
--- the store that is left
+-- The store that a step leaves.
 abbrev pub store_of : Next → Store
 store_of (Ran s es) = s
 store_of (CallsOwn p t vs s es) = s
@@ -63,7 +63,7 @@ step_leaves writes s f es = go (act s f) (act_all writes s f)
 
 -- ---- runs ----
 
--- a step of the machine is one of a run in this phase
+-- A transition that is a step of the machine is one of a run in this phase.
 abbrev InPhase : Phase → Transition → Type 0
 InPhase p (Steps q o) = q.phase ≡ p
 InPhase p (Makes o) = Unit {0}
@@ -124,7 +124,7 @@ module _ (r : Run) where
   table_grown : (t : Table) (n : ℕ) (v : RefVal) → TableExtends t (grown_table t n v)
   table_grown t n v = let l = length-append t.slots (copies n v) in record { type = refl; most = refl; size = omega (arith, l) }
 
-  -- what is delivered after a change
+  -- What is delivered after a change that extends the store.
   after_change : (c : Change) (vs : List Val) (es : List Entry) → Extending r.store c → Both r (delivered (with_change r c) vs es)
   after_change c vs es g = let d = delivered_kept (with_change r c) vs es in (record { store = and_then r.store (changed r.store c) _ (changed_extends g) d.0.store; owned = d.0.owned; begun = d.0.begun }, d.1)
 
@@ -248,7 +248,7 @@ transition_kept writes r (Growing g ∷ es) e h = next_kept r r.moves
 pub tick_extends : StepsWriteWhatTheyTouch → StepsExtend
 tick_extends writes r h = (transition_kept writes r r.entries refl h).0
 
--- a step of the machine is one of a run that was instantiated too
+-- A step of the machine that follows an instantiated run is one of an instantiated run.
 pub stepping_begun : StepsWriteWhatTheyTouch → (r q : Run) (o : Outcome Next) → IsBegun r.phase → transition r ≡ Steps q o → IsBegun q.phase
 stepping_begun writes r q o begun is = subst IsBegun (sym (subst (InPhase r.phase) is (transition_kept writes r r.entries refl begun).1)) begun
 
@@ -264,7 +264,7 @@ pub call_extends : StepsWriteWhatTheyTouch → CallsExtend
 call_extends writes r q slot vs s es begun is =
     subst (Extends r.store) (trapped_store q s es (to_mark es)) (subst (λ t. Extends r.store (made t).0.store) is (tick_extends writes r begun).store)
 
--- the call of the function in a slot, for a placeholder
+-- The call of the function in the slot of a placeholder extends the store.
 pub answer_leaves : (w : LoaderWorld) (i : Inst) (slot : ℕ) (vs : List Val) (es : List Entry) (f : Filled) → Leaves f.store (call_answered w i slot vs es f)
 answer_leaves w i slot vs es f =
     cond_all f.trapped stopped (with_found (slice_get (placeholders_of w) slot) _ (λ p _. with_found (slice_get i.tables w.slot_table) _ (λ a _. with_found (slice_get f.store.tables a) _ (λ t _. with_found (slice_get t.slots slot) _ (λ r _.

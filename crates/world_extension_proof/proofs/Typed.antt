@@ -1,4 +1,5 @@
--- Each index of a module that is added names what the module says, and so it does in each store that extends that one.
+-- Each index of a module that is added names what the module says, in the store after it and in
+-- every extension of this store.
 use Rattle.base_lists.proofs.Common.{◌≡◌, ◌∙◌, refl, sym, ap, subst, ℕ, zero, suc, ◌+◌, List, [], ◌∷◌, ◌++◌, map, length, Option, Some, None, Bool, true, false, ◌&&◌, ⊎_elim, arith, slice_get, true≢false, nat_le, cons_option, le-leb, and_parts, and_from, same_Some, cond_is, numbers_at, and_then_is}
 use Rattle.base_lists.proofs.Common.{all_there_at, unwrap_or_false_is, append_at_left, append_from, append_right, map_at, map_from, slice_get_within, length-map, copies_length, each_same_self}
 use Rattle.std.proofs.Common.{filter_map}
@@ -14,7 +15,7 @@ use Rattle.world_extension_proof.proofs.LoadExtends.{stays_in, joined_stays, own
 
 -- ---- what matches goes on to match ----
 
--- whether what was found is of the type
+-- Whether what was found is of the type.
 abbrev same_func : Option FuncType → Option Func → Option Bool
 same_func t o = t >>= λ t. (o >>= λ f. Some (type_of_func f)) >>= λ u. Some (same_func_type t u)
 
@@ -71,12 +72,12 @@ stays_typed m i s t stays h = record {
 
 -- ---- what imports denote ----
 
--- neither is there, or both are and P holds of them
+-- Neither is there, or both are and P holds of them.
 data Kinds {A : Type 0} (P : A → ℕ → Type 0) : Option A → Option ℕ → Type 0 where
   neither : Kinds P None None
   both : {y : A} {a : ℕ} → P y a → Kinds P (Some y) (Some a)
 
--- as many, and P holds place by place
+-- The lists are of equal length, and P holds place by place.
 record Alike {A : Type 0} (P : A → ℕ → Type 0) (ys : List A) (xs : List ℕ) : Type 0 where
   pub count : length xs ≡ length ys
   pub each : (n : ℕ) (y : A) → slice_get ys n ≡ Some y → (a : ℕ) × (slice_get xs n ≡ Some a) × P y a
@@ -139,7 +140,7 @@ module _ (s : Store) (m : Module) (things : List ExternalValue) (matched : all_m
   abbrev all : Store
   all = joined_stores s t
 
-  -- an index space is what the imports denote, and then what the module defines
+  -- An index space has what the imports denote, and then what the module defines.
   each_offers : {A : Type 0} (c : A → ImportDesc) (thing : ℕ → ExternalValue) (old own : List A) (xs : List ℕ) (from : ℕ) → Alike (λ y a. is_match s m (c y) (thing a) ≡ Some true) old xs → ((k : ℕ) (y : A) → slice_get own k ≡ Some y → is_match all m (c y) (thing (from + k)) ≡ Some true) →
       (count : ℕ) → length own ≡ count → (n : ℕ) (y : A) → slice_get (old ++ own) n ≡ Some y → Offers all m (c y) (slice_get (xs ++ numbers from count) n >>= λ a. Some (thing a))
   each_offers c thing old own xs from alike defined count many n y e =

@@ -1,4 +1,5 @@
--- A loader that supplies something begins where its primary module alone is not linked; one that supplies nothing begins as that module.
+-- A loader that supplies an import begins, while its primary module alone is not linked; a loader
+-- that supplies nothing begins as that module.
 use Rattle.base_lists.proofs.Common.{◌≡◌, refl, List, [], ◌∷◌, Some, None, Bool, true, false, is_some}
 use Rattle.base_lists.specs.Options.{◌>>=◌}
 use Rattle.wasm_tree_spec.specs.Prelude.{FuncType, Import, Module}
@@ -16,11 +17,11 @@ importing imports = record { types = nothing ∷ []; imports = imports; funcs = 
 abbrev one_import : Import
 one_import = record { «module» = 112 ∷ []; field = 48 ∷ []; desc = im.Func 0 }
 
--- a primary module with this import, for which the loader has these secondary modules
+-- The loader has a primary module with one import, and these secondary modules.
 abbrev loading : List Secondary → LoaderWorld
 loading secondaries = record { primary = importing (one_import ∷ []); secondaries = secondaries; slot_table = 0; view = [] }
 
--- a loader with a placeholder for that import
+-- A loader with a placeholder for that import.
 abbrev a_loader : LoaderWorld
 a_loader = loading (record { «module» = importing []; placeholders = ((112 ∷ [], 48 ∷ []), nothing) ∷ [] } ∷ [])
 
@@ -30,14 +31,14 @@ it_is_supplied = refl
 alone_it_is_not_linked : links [] (primary_world a_loader) ≡ false
 alone_it_is_not_linked = refl
 
--- where nothing is supplied neither begins
+-- Neither the loader nor the module begins if the import is not supplied.
 it_is_not_supplied : is_some (begun_under [] (loading [])) ≡ false
 it_is_not_supplied = refl
 
 nor_is_it_linked : links [] (primary_world (loading [])) ≡ false
 nor_is_it_linked = refl
 
--- without an import both begin alike
+-- The loader and the module begin alike if there is no import.
 without_an_import : let w = record (loading []) { primary = importing [] } in begun_under [] w ≡ instantiate [] (primary_world w)
 without_an_import = refl
 
@@ -49,7 +50,7 @@ its_placeholder_is_last = record { slots = one_import ∷ []; all = refl; own = 
 it_begins_as_with_a_function : begun_under [] a_loader ≡ begun_under [] (stubbed a_loader [] (0 ∷ [])) >>= λ b. Some (placeholders_begun [] a_loader b)
 it_begins_as_with_a_function = refl
 
--- but for the placeholder itself
+-- The first store has the placeholder itself, the second a function in its place.
 abbrev has_placeholder : List Func → Bool
 has_placeholder (Placeholder slot ty ∷ fs) = true
 has_placeholder fs = false

@@ -1,11 +1,12 @@
--- A step under a loader that calls no placeholder is a step of the run, and one that calls a placeholder goes on in the function in its slot.
+-- A step under a loader that calls no placeholder is a step of the run, and one that calls a
+-- placeholder continues in the function in its slot.
 use Rattle.base_lists.proofs.Common.{◌≡◌, zero, suc, true, false, refl, arith, each_same_self}
 use Rattle.wasm_tree_spec.specs.Prelude.{same_type, same_func_type}
 use Rattle.wasm_meaning.specs.Prelude.{Transition, made, transition, tick, LoaderWorld, LoaderRun, loader_made}
 use Rattle.index_remap.specs.Prelude.{calls_placeholder}
 use Rattle.world_loader_proof.specs.LoaderSteps.{LoadersStepAsTheirRun, LoadersGoAsTheirRun, PlaceholdersAreAnswered}
 
--- what a loader makes of a step that calls no placeholder is what the run makes of it
+-- A transition that calls no placeholder is made under a loader as it is made by the run.
 made_by_the_run : (w : LoaderWorld) (q : LoaderRun) (t : Transition) → calls_placeholder t ≡ false → loader_made w q t ≡ (record q { run = (made t).0 }, (made t).1)
 made_by_the_run w q t none = grind arith
 

@@ -20,7 +20,8 @@ module _ (env : Environment) where
   pub shares : SharesOwn R env
   shares = record { funcs = is_shared Functions; tables = is_shared Tables; mems = is_shared Memories; globals = is_shared Globals }
 
-  -- what is related at each of the environment's own addresses is related at addresses that are shared
+  -- Items that are related to themselves at each of the environment's own addresses are related at
+  -- all related addresses.
   shared_at : {A : Type 0} {P : A → A → Type 0} (k : Space) (xs : List A) → ((n : ℕ) → n < own_count k env → BothRel P (slice_get xs n) (slice_get xs n)) → (a b : ℕ) → R.of k a b → BothRel P (slice_get xs a) (slice_get xs b)
   shared_at k xs h a b r = let e : (a ≡ b) × (a < own_count k env) = grind (arith, nat_tests) in rw (← e.0) (h a e.1)
 

@@ -1,4 +1,5 @@
--- A loader begins as one whose primary module has functions of its own in place of the placeholders.
+-- A loader begins as one whose primary module has functions of its own in place of the
+-- placeholders.
 use Rattle.world_simulation.specs.Prelude.{external_value_in}
 use Rattle.base_lists.proofs.Common.{◌≡◌, ℕ, suc, ◌+◌, List, [], ◌∷◌, ◌++◌, map, length, Option, Some, None, true, cond, refl, ap, arith, append_assoc, append-nil, slice_get, length-append, length-map, add-zero, same_Some, filter_map-append, numbers_append, append_right, opt_self, add_next}
 use Rattle.base_lists.proofs.Common.{each_same_self}
@@ -17,7 +18,7 @@ use Rattle.world_contents_proof.specs.FuncsAside.{SegmentsIgnoreFunctions, Segme
 use Rattle.std.proofs.Common.{add-suc}
 use lib.Seq.{drop-append_seam, drop-append-add}
 
--- what is there for a list with another behind it is what is there for each, one behind the other
+-- The results for two lists joined are the results for each, joined.
 there_both : {A B : Type 0} (f : A → Option B) (xs ys : List A) → all_there f (xs ++ ys) ≡ all_there f xs >>= λ a. all_there f ys >>= λ b. Some (a ++ b)
 there_both f [] ys = grind arith
 there_both f (x ∷ xs) ys = grind (arith, there_both f xs ys)
@@ -26,17 +27,17 @@ pub placeholders_many : (n : ℕ) (ps : List (Pair × FuncType)) → length (pla
 placeholders_many n [] = refl
 placeholders_many n (p ∷ ps) = ap suc (placeholders_many (suc n) ps)
 
--- functions have addresses in no other space
+-- Functions have addresses in no other index space.
 of_functions : (k : Space) (xs : List ℕ) → addresses_of k (map FuncAt xs) ≡ cond (same_space k Functions) xs []
 of_functions k [] = grind arith
 of_functions k (x ∷ xs) = grind (arith, of_functions k xs)
 
--- the stub of a placeholder, as it is allocated in an instance
+-- The stub of a placeholder, as it is allocated in an instance.
 abbrev stub_in : Inst → Pair × FuncType → Func
 stub_in i q = Code q.1 i (declared []) (Unreachable ∷ [])
 
 module _ (kept : SegmentsKeepFunctions) (ignored : SegmentsIgnoreFunctions) (env : Environment) (w : LoaderWorld) (others : List Import) (tys : List ℕ) (last : ImportsThemLast w others tys) where
-  -- the primary module, and the one with stubs in place of the placeholders
+  -- The primary module, and the module with stubs in place of the placeholders.
   abbrev P : Module
   P = w.primary
 
@@ -46,17 +47,18 @@ module _ (kept : SegmentsKeepFunctions) (ignored : SegmentsIgnoreFunctions) (env
   abbrev ps : List (Pair × FuncType)
   ps = placeholders_of w
 
-  -- the store to which the primary module is added
+  -- The store to which the primary module is added.
   abbrev first : Store
   first = store_under env w
 
-  -- the functions from this address on, one for each of these placeholders
+  -- The functions from this address on, one for each of these placeholders.
   abbrev functions : ℕ → List (Pair × FuncType) → List ExternalValue
   functions a qs = map FuncAt (numbers a (length qs))
 
   -- ---- the imports of placeholders ----
 
-  -- the imports of the placeholders from slot `n` on denote the functions from address `a` on and match them, and each has its stub
+  -- The imports of the placeholders from slot `n` on denote the functions from address `a` on and
+  -- match them, and each has its stub.
   record Placed (a n : ℕ) (is : List Import) (qs : List (Pair × FuncType)) (ts : List ℕ) : Type 0 where
     denote : all_there (supplied env w) is ≡ Some (functions a qs)
     match : ((k : ℕ) → slice_get first.funcs (a + k) ≡ slice_get (placeholders_from n qs) k) → all_match first P is (functions a qs) ≡ true
@@ -93,7 +95,7 @@ module _ (kept : SegmentsKeepFunctions) (ignored : SegmentsIgnoreFunctions) (env
       let there : external_value_in env Q.types (Some i) ≡ Some x = grind (arith, is) in
       grind (arith, match_same (R env) env (shares env) (own_store env) first like Q Q refl refl i.desc (opt_self (thing_rel (R env) env (shares env) Q.types (Some i)) there))
 
-  -- what all imports denote, where those other than placeholders denote `xs`
+  -- What all imports denote, if those other than placeholders denote `xs`.
   abbrev behind : List ExternalValue → List ExternalValue
   behind xs = xs ++ functions (own_count Functions env) ps
 
@@ -110,15 +112,15 @@ module _ (kept : SegmentsKeepFunctions) (ignored : SegmentsIgnoreFunctions) (env
     abbrev value : ConstExpr → Option Val
     value = const_value (own_globals env) i
 
-    -- what the module with stubs adds to the store, where the primary module adds this
+    -- What the module with stubs adds to the store, if the primary module adds this.
     abbrev with_stubs : Option Store → Option Store
     with_stubs o = o >>= λ t. Some (record t { funcs = map (stub_in i) ps ++ t.funcs })
 
-    -- what the module `m` comes to in the store `s`, where it adds this
+    -- The result of adding the module `m` to the store `s`, if what it defines is this.
     abbrev filled_in : Store → Module → Option Store → Option Added
     filled_in s m o = o >>= λ t. Some (record { inst = i; filled = own_segments value m i (joined_stores s t) })
 
-    -- the placeholders stand where the stubs do
+    -- The placeholders are at the addresses of the stubs.
     in_place : (o : Option Store) → filled_in first P o ≡ filled_in (own_store env) Q (with_stubs o) >>= λ a. Some (placeholders_in env w a)
     in_place None = refl
     in_place (Some t) =
@@ -135,7 +137,7 @@ module _ (kept : SegmentsKeepFunctions) (ignored : SegmentsIgnoreFunctions) (env
   added_same : (xs : List ExternalValue) → all_there (own_external_value (owned_of env) Q) others ≡ Some xs → added first P (behind xs) ≡ added (own_store env) Q xs >>= λ a. Some (placeholders_in env w a)
   added_same xs h = rw (ap (λ is. all_match first P is (behind xs)) last.all, matches others xs h, same_inst xs, same_added (next_inst (own_store env) Q xs) refl) (grind arith)
 
-  -- what all imports of the primary module denote
+  -- What all imports of the primary module denote.
   denoted : all_there (supplied env w) P.imports ≡ all_there (own_external_value (owned_of env) Q) others >>= λ xs. Some (behind xs)
   denoted = rw (last.all, there_both, supplied_own others last.own, slots.denote)
 

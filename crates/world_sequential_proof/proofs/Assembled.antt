@@ -1,4 +1,5 @@
--- All of it together: what a world that begins well gives to the sequential run.
+-- A world that begins well satisfies the premises of the lemmas on the sequential run, and so has
+-- equal traces.
 use Rattle.base_lists.proofs.Common.{◌≡◌, ◌∙◌, sym, ap, ap₂, ℕ, List, [], Some, true, arith, and_then_is, same_Some, inl, inr, cond_is, each_same_is}
 use Rattle.wasm_tree_spec.specs.Prelude.{ValType, FuncType, same_type, same_func_type, Module, type_of_func}
 use Rattle.wasm_valid.specs.declared.kinds.ItemKind.TheVariants as kind
@@ -21,11 +22,11 @@ use Rattle.world_sequential_proof.proofs.FillValid.{valid_constants, valid_expor
 use Rattle.world_sequential_proof.proofs.FillWorld.{fill_laws}
 use Rattle.world_sequential_proof.proofs.PartLaws.{Instances}
 
--- a type with nothing on either side
+-- A function type without parameters and results is the type of a start.
 plain_type : (t : FuncType) → t.params ≡ [] → t.results ≡ [] → t ≡ nothing_to_nothing
 plain_type t e f = ap₂ {A = List ValType} {B = List ValType} {C = FuncType} (λ ps rs. record { params = ps; results = rs }) e f
 
--- what a world that is instantiated has
+-- The instances and the store of an instantiated world.
 record Instantiated (env : Environment) (w : World) (b : Begun) : Type 0 where
   insts : List Inst
   allocated : Store
@@ -48,7 +49,7 @@ instantiated env w b h =
 
 module _ (items : ValidWhereItemsHold) (below : StartDependsOnlyOnItsFrames) (extend : ExtensionLaws) (itself : CodeIsRelatedToItself) (ticks : RelatedTicksAgree) (others : OthersStay) (own : OwnEntitiesCorrespond) (listed : SitesAreImports)
     (part_instances : EachPartHasAnInstance) (spaces : SpacesAreImportsAndDefinitions) (names : IndicesNameImportsOrDefinitions) (placed : AllocatedStoresHaveDefinitions) (next : EachPartAddsItsDefinitions) (exported : FoundExportsAreThere) where
-  -- the start of a valid module
+  -- The start of a valid module takes and gives nothing.
   start_type : (m : Module) (x : ℕ) → IsValid m → m.start ≡ Some x → type_of_func m x ≡ Some nothing_to_nothing
   start_type m x valid e =
       let h = (items m).0 valid kind.Start 0 (omega (arith, ap start_count e)) in

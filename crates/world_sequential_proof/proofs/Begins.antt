@@ -1,4 +1,5 @@
--- Until the first start the parts are added one after the other, their segments with them, and then the stores stand beside one another.
+-- The sequential run before the first start: the parts are added one after the other, with their
+-- segments, and then the sequential store corresponds to the store of all parts at once.
 use Rattle.base_lists.proofs.Common.{◌≡◌, ◌∙◌, refl, sym, ap, subst, ℕ, suc, ◌+◌, ◌-◌, ◌<◌, ◌≤◌, List, [], ◌∷◌, ◌++◌, map, length, Some, None, false, inl, inr, arith, drop, slice_get, length-append, append_left, append_right, append_at_left, append_from, map_from, each_rel, append_rel, self_rel}
 use Rattle.base_lists.specs.Related.{EachRelated}
 use Rattle.wasm_tree_spec.specs.Prelude.{Module}
@@ -38,11 +39,12 @@ joined_extends reflexive s t u h = record {
   data_count = simp (length-append, h.data_count);
 }
 
--- what stands in the front stands there, extended
+-- An element of the front list has a related element in a later state of that list.
 each_front : {A : Type 0} (P : A → A → Type 0) (front back now : List A) {n : ℕ} → length front ≡ n → EachRelated P front now → (a : ℕ) (x : A) → a < n → slice_get (front ++ back) a ≡ Some x → (y : A) × (slice_get now a ≡ Some y) × P x y
 each_front P front back now size h a x l e = h a x (rw (← append_left front back a (omega arith)) e)
 
--- a list that is related to itself beside one with more behind it
+-- A list that is related to itself is related, element by element, to a longer list that begins
+-- with it.
 both_front : {A : Type 0} {P : A → A → Type 0} (now back : List A) {n : ℕ} → length now ≡ n → ListRel P now now → (a : ℕ) → a < n → BothRel P (slice_get now a) (slice_get (now ++ back) a)
 both_front now back size r a l = rw (append_left now back a (omega arith)) (both_list r a (omega arith))
 
@@ -53,7 +55,7 @@ same_back now front back {n} e f a l =
     let y : a ≡ length front + j = omega arith in
     ap (slice_get (now ++ back)) x ∙ append_right now back j ∙ sym (append_right front back j) ∙ ap (slice_get (front ++ back)) (sym y)
 
--- the environment's functions are its own
+-- The environment's functions reach no address of a part.
 pub own_sound : (env : Environment) (parts : List Part) (p : ℕ) (offers : List Offer) (a : ℕ) (f : Func) → slice_get (flat (λ o. map (Own o.pair) o.funcs) offers) a ≡ Some f → Sound env parts p f
 own_sound env parts p [] a f e = cc
 own_sound env parts p (o ∷ os) a f e = elim (append_from (map (Own o.pair) o.funcs) (flat (λ o. map (Own o.pair) o.funcs) os) a f e) [
@@ -62,7 +64,7 @@ own_sound env parts p (o ∷ os) a f e = elim (append_from (map (Own o.pair) o.f
 ]
 
 module _ (env : Environment) (w : World) (insts : List Inst) (allocated : Store) (g : IsGiven env w insts allocated) where
-  -- what was allocated is in front, extended
+  -- A store that extends the store of the first parts holds what was allocated for them.
   front_holds : (k : ℕ) (t : Store) → k ≤ length w.parts → Extends (g.laid.first k) t → Holds env w.parts k allocated t
   front_holds k t l h =
       let sizes = g.laid.first_sized k l in
@@ -74,13 +76,13 @@ module _ (env : Environment) (w : World) (insts : List Inst) (allocated : Store)
         globals = each_front GlobalExtends (g.laid.first k).globals back.globals t.globals sizes.globals h.globals;
       })
 
-  -- a store that extends what was allocated for the first parts, and refers to nothing beyond
+  -- A store that extends the store of the first parts and refers to nothing beyond them.
   pub record OfFirst (k : ℕ) (t : Store) : Type 0 where
     pub extends : Extends (g.laid.first k) t
     pub closed : Closed (reaching env w.parts k) t
     pub sound : (a : ℕ) (f : Func) → slice_get t.funcs a ≡ Some f → Sound env w.parts k f
 
-  -- ---- beside one another ----
+  -- ---- the correspondence of the stores ----
 
   pub beside_after : (k : ℕ) (t : Store) → k ≤ length w.parts → (segments env w.parts insts allocated).store ≡ joined_stores t (g.laid.rest k) → Sized env w.parts k t → OfFirst k t → Beside env w.parts k allocated t (segments env w.parts insts allocated).store
   beside_after k t l whole sized h =
@@ -112,7 +114,7 @@ module _ (env : Environment) (w : World) (insts : List Inst) (allocated : Store)
   abbrev after : Store
   after = (segments env w.parts insts allocated).store
 
-  -- what is known of stores whose first parts' segments were copied
+  -- The laws on stores into which the segments of the first parts were copied.
   pub record FillLaws : Type 0 where
     pub filled_none : IsFilled 0 (own_store env)
     pub filled_next : (k : ℕ) (m : Module) (i : Inst) (t : Store) → module_at w.parts k ≡ Some m → slice_get insts k ≡ Some i → IsFilled k t →
@@ -127,7 +129,7 @@ module _ (env : Environment) (w : World) (insts : List Inst) (allocated : Store)
   opened_run k t moves = record { store = t; entries = Opening [] ∷ []; phase = Pending (view_over (made_upto k w.parts insts) w.view); shown = []; view = []; owned = owned_of env; moves = moves }
 
   module _ (laws : FillLaws) (moves : List Move) where
-    -- the first parts are there, and none of them has a start
+    -- The first parts are instantiated, and none of them has a start.
     pub record Fills (k : ℕ) (r : Run) (q : SequentialRun) : Type 0 where
       pub filled : IsFilled k q.run.store
       pub of_first : OfFirst env w insts allocated g k q.run.store
@@ -139,7 +141,7 @@ module _ (env : Environment) (w : World) (insts : List Inst) (allocated : Store)
 
     -- ---- the next part ----
 
-    -- what comes of the first parts with one more
+    -- The step of the sequential run that adds the next part.
     pub record Advances (k : ℕ) (part : Part) (i : Inst) (q : SequentialRun) : Type 0 where
       pub next_store : Store
       pub is : tick_sequential q ≡ (goes_on q part (drop (suc k) w.parts) i next_store, None)

@@ -1,4 +1,5 @@
--- The store of parts that are instantiated sequentially beside the store of all parts at once: what the first parts have corresponds, and the rest is as it was allocated.
+-- The store of parts that are instantiated sequentially corresponds to the store of all parts at
+-- once: the entities of the first parts are related, and the others are as they were allocated.
 use Rattle.base_lists.proofs.Common.{◌≡◌, ◌∙◌, refl, ap, ℕ, suc, ◌+◌, ◌-◌, ◌<◌, ◌≤◌, List, [], ◌++◌, length, Some, true, inl, inr, arith, slice_get, cases_lt, length-append, append_left, append_right, append_from, zero-add, slice_get_there, both_map, same_there, both_in, self_rel}
 use Rattle.wasm_tree_spec.specs.Prelude.{Space, Functions, Tables, Memories, Globals, ElementSegments, DataSegments, Module}
 use Rattle.wasm_meaning.specs.Prelude.{Inst, Func, Memory, Data, Store, Part, module_at, Environment, own_store, base, joined_stores, part_store, defined_before}
@@ -14,7 +15,7 @@ use Rattle.wasm_meaning.specs.Counted.{EachPartAddsItsDefinitions}
 pub both_list : {A : Type 0} {P : A → A → Type 0} {ys : List A} → ListRel P ys ys → (j : ℕ) → j < length ys → BothRel P (slice_get ys j) (slice_get ys j)
 both_list r = both_in r
 
--- what is added stands beside what was allocated for it
+-- The added elements are related to the elements that were allocated for them.
 joined_both : {A : Type 0} (P : A → A → Type 0) (xs ys zs : List A) (n : ℕ) → length xs ≡ n → ((a : ℕ) → a < n → BothRel P (slice_get xs a) (slice_get zs a)) → ListRel P ys ys → ((j : ℕ) → j < length ys → slice_get zs (n + j) ≡ slice_get ys j) →
     (a : ℕ) → a < n + length ys → BothRel P (slice_get (xs ++ ys) a) (slice_get zs a)
 joined_both P xs ys zs n size old self stands a l = elim (cases_lt a n) [
@@ -32,7 +33,8 @@ joined_both P xs ys zs n size old self stands a l = elim (cases_lt a n) [
 abbrev pub empty_store : Store
 empty_store = record { funcs = []; tables = []; mems = []; globals = []; elems = []; datas = [] }
 
--- what the first parts have, what one part adds, and what the parts from one on have
+-- The layout of the allocated store: the store of the first parts, the store that a part adds, and
+-- the store of the parts from one on.
 pub record Laid (env : Environment) (parts : List Part) (insts : List Inst) (allocated : Store) : Type 0 where
   pub defined_next : EachPartAddsItsDefinitions
   pub first : ℕ → Store
@@ -46,7 +48,7 @@ pub record Laid (env : Environment) (parts : List Part) (insts : List Inst) (all
   pub rest_end : rest (length parts) ≡ empty_store
   pub part_adds : (k : ℕ) (m : Module) (i : Inst) → module_at parts k ≡ Some m → slice_get insts k ≡ Some i → part_store env parts insts k m i ≡ Some (adds k)
 
--- beyond the first parts all is as it was allocated
+-- Beyond the first parts, the store is as it was allocated.
 pub record Untouched (env : Environment) (parts : List Part) (p : ℕ) (allocated s : Store) : Type 0 where
   pub tables : (a : ℕ) → base env parts Tables p ≤ a → slice_get s.tables a ≡ slice_get allocated.tables a
   pub mems : (a : ℕ) → base env parts Memories p ≤ a → slice_get s.mems a ≡ slice_get allocated.mems a
@@ -54,7 +56,7 @@ pub record Untouched (env : Environment) (parts : List Part) (p : ℕ) (allocate
   pub elems : (a : ℕ) → defined_before ElementSegments parts p ≤ a → slice_get s.elems a ≡ slice_get allocated.elems a
   pub datas : (a : ℕ) → defined_before DataSegments parts p ≤ a → slice_get s.datas a ≡ slice_get allocated.datas a
 
--- the sequential store, and the store at once
+-- The sequential store corresponds to the store of all parts at once.
 pub record Beside (env : Environment) (parts : List Part) (p : ℕ) (allocated t s : Store) : Type 0 where
   pub related : StoreRel (reaching env parts p) t s
   pub sized : Sized env parts p t
@@ -72,11 +74,11 @@ sound_more env parts p q f b (code r) = code (record {
 })
 
 module _ (env : Environment) (parts : List Part) (p : ℕ) where
-  -- what stands at the same addresses stands at those that are related
+  -- A relation of the elements at equal addresses holds for related addresses.
   at_reached : (k : Space) {A : Type 0} {P : A → A → Type 0} (xs ys : List A) → ((a : ℕ) → a < base env parts k p → BothRel P (slice_get xs a) (slice_get ys a)) → (a b : ℕ) → is_reached env parts p k a b ≡ true → BothRel P (slice_get xs a) (slice_get ys b)
   at_reached k xs ys h a b r = let x = reached_is env parts p k a b r in rw (← x.0) (h a x.1)
 
-  -- a relation of stores by place gives the relation of stores
+  -- Two stores are related if their elements at equal addresses are.
   pub stores_related : (t s : Store) → ((a : ℕ) → a < base env parts Functions p → BothRel (FuncRel (reaching env parts p)) (slice_get t.funcs a) (slice_get s.funcs a)) →
       ((a : ℕ) → a < base env parts Tables p → BothRel (TableRel (reaching env parts p)) (slice_get t.tables a) (slice_get s.tables a)) → ((a : ℕ) → a < base env parts Memories p → BothRel (λ (x y : Memory). x ≡ y) (slice_get t.mems a) (slice_get s.mems a)) →
       ((a : ℕ) → a < base env parts Globals p → BothRel (GlobalRel (reaching env parts p)) (slice_get t.globals a) (slice_get s.globals a)) → ((a : ℕ) → a < defined_before ElementSegments parts p → BothRel (ElemRel (reaching env parts p)) (slice_get t.elems a) (slice_get s.elems a)) →
@@ -94,7 +96,7 @@ module _ (env : Environment) (parts : List Part) (p : ℕ) where
 
 -- ---- the next part is added ----
 
--- the entities of a space, and how many of them there are after so many parts
+-- The entities of an index space in a store, and their number after a number of parts.
 record Counts (env : Environment) (parts : List Part) (k : Space) {A : Type 0} (get : Store → List A) : Type 0 where
   joins : (s t : Store) → get (joined_stores s t) ≡ get s ++ get t
   sized : (q : ℕ) (t : Store) → Sized env parts q t → length (get t) ≡ base env parts k q
@@ -137,7 +139,7 @@ module _ (law : CodeIsRelatedToItself) (env : Environment) (parts : List Part) (
         let next = rw (laid.first_next p m is_part, counts.joins) at after in
         omega arith
 
-    -- what was allocated for the part stands after what the first parts have
+    -- The entities that were allocated for the part come after those of the first parts.
     stands : (j : ℕ) → j < length mine → slice_get (get allocated) (base env parts k p + j) ≡ slice_get mine j
     stands j l =
         let before = counts.sized p (laid.first p) (laid.first_sized p (omega arith)) in
@@ -151,7 +153,7 @@ module _ (law : CodeIsRelatedToItself) (env : Environment) (parts : List Part) (
         (a : ℕ) → a < base env parts k (suc p) → BothRel P (slice_get (get t ++ mine) a) (slice_get (get s) a)
     next_both P t s z old self same a l = joined_both P (get t) mine (get s) (base env parts k p) (counts.sized p t z) old self (λ j l. same (base env parts k p + j) (omega arith) ∙ stands j l) a (rw (← counted) l)
 
-  -- the functions of the first parts and of the next
+  -- The functions of the first parts and of the next part reach nothing beyond these parts.
   pub sound_joined : (fs : List Func) → ((a : ℕ) (f : Func) → slice_get fs a ≡ Some f → Sound env parts p f) → ((n : ℕ) (f : Func) → slice_get (laid.adds p).funcs n ≡ Some f → Sound env parts (suc p) f) → (a : ℕ) (f : Func) → slice_get (fs ++ (laid.adds p).funcs) a ≡ Some f →
       Sound env parts (suc p) f
   sound_joined fs old new a f e = elim (append_from fs (laid.adds p).funcs a f e) [

@@ -1,4 +1,5 @@
--- A store that refers to nothing beyond what the environment and the first parts have, and what a part adds to it.
+-- Stores that refer only to entities of the environment and the first parts, and the entities that
+-- a part adds to such a store.
 use Rattle.base_lists.proofs.Common.{◌≡◌, refl, ℕ, suc, ◌<◌, List, [], ◌∷◌, Some, true, slice_get, and_then_is, same_Some, all_there_back, each_rel, copies_rel, then_same_is, opt_self, self_rel, all_rel, maps_rel, arith}
 use Rattle.wasm_tree_spec.specs.Prelude.{Space, Functions, Tables, Memories, Globals, ElementSegments, DataSegments, FuncType, Instr, ConstExpr, Module}
 use Rattle.wasm_tree.specs.declared.module.ConstExpr.TheVariants as const
@@ -10,7 +11,7 @@ use Rattle.world_simulation.proofs.Owned.{null_rel}
 use Rattle.world_simulation.specs.Prelude.{new_table, AddsWith}
 use Rattle.world_simulation.proofs.Stored.{global_rel, elem_rel}
 
--- ---- more is reached later ----
+-- ---- more parts reach more ----
 
 module _ (R Q : Pairing) (more : (k : Space) (a b : ℕ) → R.of k a b → Q.of k a b) where
   ref_more : {r s : RefVal} → RefRel R r s → RefRel Q r s
@@ -31,12 +32,12 @@ module _ (R Q : Pairing) (more : (k : Space) (a b : ℕ) → R.of k a b → Q.of
   pub elem_more : (e f : Elem) → ElemRel R e f → ElemRel Q e f
   elem_more e f r = record { items = each_rel (λ _ _ p. ref_more p) r.items }
 
--- a list whose elements are related to themselves
+-- A list is related to itself if its elements are.
 pub self_by : {A : Type 0} {P : A → A → Type 0} (xs : List A) → ((n : ℕ) (x : A) → slice_get xs n ≡ Some x → P x x) → ListRel P xs xs
 self_by [] h = nil
 self_by (x ∷ xs) h = cons (h 0 x refl) (self_by xs (λ n x e. h (suc n) x e))
 
--- what stands in such a store refers to itself
+-- A closed store: its entities are related to themselves.
 pub record Closed (R : Pairing) (t : Store) : Type 0 where
   pub funcs : ListRel (FuncRel R) t.funcs t.funcs
   pub tables : ListRel (TableRel R) t.tables t.tables
@@ -45,7 +46,7 @@ pub record Closed (R : Pairing) (t : Store) : Type 0 where
 
 -- ---- one part ----
 
--- addresses that an instance has are reached
+-- The addresses of an instance are those of the environment and the first parts.
 pub record Reaches (env : Environment) (parts : List Part) (p : ℕ) (i : Inst) : Type 0 where
   pub spaces : (k : Space) (n a : ℕ) → slice_get (space_in i k) n ≡ Some a → a < base env parts k p
   pub elems : (n a : ℕ) → slice_get i.elems n ≡ Some a → a < count_upto env parts p ElementSegments
@@ -64,7 +65,8 @@ names_itself env parts p i r = record {
     at : (k : Space) (n a : ℕ) → slice_get (space_in i k) n ≡ Some a → is_reached env parts p k a a ≡ true
     at k n a e = reached_at env parts p k a (r.spaces k n a e)
 
--- functions of the environment's own, and code over an instance that reaches no further
+-- A function that reaches no further than the first parts: one of the environment's own, or code of
+-- an instance that reaches no further.
 pub data Sound (env : Environment) (parts : List Part) (p : ℕ) : Func → Type 0 where
   own_func : {pair : _} {t : FuncType} → Sound env parts p (Own pair t)
   code : {t : FuncType} {i : Inst} {ls : List _} {c : List Instr} → Reaches env parts p i → Sound env parts p (Code t i ls c)
@@ -84,7 +86,7 @@ module _ (law : CodeIsRelatedToItself) (env : Environment) (parts : List Part) (
   value_self (const.Func f) = then_same_is (slice_get i.funcs f) (λ a e. some (reference (func (some (reached_at env parts p Functions a (reaches.spaces Functions f a e))))))
   value_self (const.Global x) = then_same_is (slice_get i.globals x) (λ a _. then_same_is (slice_get globals a) (λ g e. some (values a g e)))
 
-  -- what a part adds refers to nothing beyond
+  -- The functions that a part adds reach no further than the part.
   pub added_sound : (t : Store) → store_with (const_value globals i) m i ≡ Some t → (n : ℕ) (f : Func) → slice_get t.funcs n ≡ Some f → Sound env parts p f
   added_sound t h n f e =
       let adds : AddsWith (const_value globals i) m i t = search (arith, h) in

@@ -1,4 +1,5 @@
--- A part's instance has addresses of the environment's entities and of what parts up to it define, where each joined import leads to an earlier part.
+-- The instance of a part has addresses of the environment's entities and of definitions of parts up
+-- to it, if each joined import leads to an earlier part.
 use Rattle.world_sequential_proof.proofs.PartLaws.{Instances}
 use Rattle.base_lists.proofs.Common.{◌≡◌, ◌∙◌, refl, sym, subst, ℕ, zero, suc, ◌<◌, List, ◌++◌, length, Option, Some, None, ◌⊎◌, inl, inr, arith, option_and_then, slice_get, and_then_is, same_Some, append_from}
 use Rattle.wasm_tree_spec.specs.Prelude.{Space, Functions, Tables, Memories, Globals, Types, Import, Module, index_of_export, space_of_export}
@@ -25,7 +26,7 @@ same_thing Globals Globals a b e = (refl, same_Some _ _ e)
 same_thing _ _ a b e = cc
 
 module _ (env : Environment) (parts : List Part) (insts : List Inst) (are : Instances env parts insts) (size : length insts ≡ length parts) (earlier : JoinsEarlier parts) (own : OwnEntitiesCorrespond) where
-  -- an import that denotes something is there
+  -- An import that denotes an external value exists.
   import_there : (p n : ℕ) (m : Module) (x : ExternalValue) → module_at parts p ≡ Some m → imported_external_value env parts (record { part = p; import = n }) ≡ Some x → (i : Import) × (slice_get m.imports n ≡ Some i)
   import_there p n m x is h = elim (slice_get m.imports n) as (λ o. slice_get m.imports n ≡ o → (i : Import) × (slice_get m.imports n ≡ Some i)) [
     | Some i ↦ λ e. (i, e)

@@ -1,4 +1,5 @@
--- Two worlds of which the law of parts that are instantiated sequentially speaks: all that it asks holds of them together, and what is seen of both ways to run them is computed.
+-- Two worlds to which the law of sequential instantiation applies: all its premises hold of them
+-- together, and the traces of both ways to run them are computed.
 use Rattle.base_lists.proofs.Common.{◌≡◌, refl, ℕ, zero, suc, ◌+◌, List, [], ◌∷◌, slice_get, Some, None, true, arith, pos, Contains, same_Some}
 use Rattle.wasm_tree.specs.declared.types.RefType.TheVariants as reft
 use Rattle.wasm_tree.specs.declared.types.ValType.TheVariants as valt
@@ -16,9 +17,9 @@ use Rattle.wasm_meaning.specs.Prelude.{Text, Part, Entity, module_at, joined, En
 use Rattle.wasm_meaning.specs.Sequential.{BeginsWell}
 use Rattle.world_sequential_proof.specs.Laws.{SequentialInstantiationIsEquivalent}
 
--- ---- what is common ----
+-- ---- shared definitions ----
 
--- the names own, a, f, g and t
+-- The names own, a, f, g and t.
 abbrev own : Text
 own = 111 ∷ (119 ∷ (110 ∷ []))
 
@@ -46,7 +47,7 @@ empty = record { types = nothing ∷ (to_i32 ∷ []); imports = []; funcs = []; 
 abbrev code : ℕ → List Instr → Func
 code ty body = record { ty = ty; locals = []; body = body }
 
--- the environment's function f of own, of type [] to []
+-- The environment's function f of own, of type [] to [].
 abbrev own_func : Import
 own_func = record { «module» = own; field = f; desc = im.Func 0 }
 
@@ -62,12 +63,13 @@ two_parts x y = record { name = Some a; «module» = x } ∷ (record { name = No
 abbrev asks : Event
 asks = Asked (own, f) nothing []
 
--- what a valid module has, one after the other: its imports, functions, tables, exports, start and segments, then the bodies of its functions
+-- A pair of proofs, for the items of a valid module in order: its imports, functions, tables,
+-- exports, start and segments, then the bodies of its functions.
 infixr 5 ◌&◌
 abbrev ◌&◌ : {A B : Type 0} → A → B → A × B
 a & b = (a, b)
 
--- what holds of two modules holds of each part of the two
+-- Each part of two is valid if both modules are.
 of_both : (x y : Module) → IsValid x → IsValid y → (p : ℕ) (m : Module) → module_at (two_parts x y) p ≡ Some m → IsValid m
 of_both x y first second zero m e = rw (← same_Some _ _ e) first
 of_both x y first second (suc zero) m e = rw (← same_Some _ _ e) second
@@ -81,7 +83,7 @@ one_number = Some valt.I32 ∷ []
 
 -- ---- a start in the first part ----
 
--- its start calls the environment's function, and its function f gives 5
+-- A module whose start calls the environment's function, and whose function f gives 5.
 abbrev starts_first : Module
 starts_first = record empty {
   imports = own_func ∷ [];
@@ -90,7 +92,7 @@ starts_first = record empty {
   start = Some 1;
 }
 
--- its function g calls that
+-- A module whose function g calls the function f of the other.
 abbrev calls_it : Module
 calls_it = record empty { imports = record { «module» = a; field = f; desc = im.Func 1 } ∷ []; funcs = code 1 (i.Call 0 ∷ []) ∷ []; exports = record { name = g; desc = ex.Func 1 } ∷ [] }
 
@@ -123,11 +125,12 @@ calls_it_is_valid =
 abbrev one_entry : TableType
 one_entry = record { ty = reft.Func; limits = record { min = 1; max = Some 1 } }
 
--- its table by the name t
+-- A module that exports its table by the name t.
 abbrev has_a_table : Module
 has_a_table = record empty { tables = one_entry ∷ []; exports = record { name = t; desc = ex.Table 0 } ∷ [] }
 
--- it puts a function there that calls the environment's, and its start calls through the table
+-- A module that puts a function into that table which calls the environment's, and whose start
+-- calls through the table.
 abbrev fills_it : Module
 fills_it = record empty {
   imports = record { «module» = a; field = t; desc = im.Table one_entry } ∷ (own_func ∷ []);
@@ -159,17 +162,19 @@ fills_it_is_valid =
     & (_, _, refl, refl, ([], (one_number, (_, refl, ([], [], refl, tt, refl)), ([], (_, refl, (one_number, [], refl, (refl, tt), refl)), refl)), tt))
     & tt
 
--- ---- all that the law asks ----
+-- ---- the premises of the law ----
 
 module _ (x y : Module) where
-  -- no import of the first is joined, and those of the second that are lead to the first
+  -- Joined imports lead to earlier parts, if no import of the first part is joined and those of the
+  -- second lead to the first.
   joins_earlier : ((n : ℕ) (im : Import) → slice_get x.imports n ≡ Some im → joined (two_parts x y) im ≡ None) →
       ((n : ℕ) (im : Import) (e : Entity) → slice_get y.imports n ≡ Some im → joined (two_parts x y) im ≡ Some e → e.part ≡ 0) → JoinsEarlier (two_parts x y)
   joins_earlier none first zero n m im e at is joins = let k = none n im (rw (← same_Some _ _ at) at is) in cc
   joins_earlier none first (suc zero) n m im e at is joins = omega (arith, first n im e (rw (← same_Some _ _ at) at is) joins)
   joins_earlier none first (suc (suc p)) n m im e at is joins = cc
 
-  -- where the first has a start, the second has no active segment
+  -- There are no late segments, if the second part has no active segment when the first has a
+  -- start.
   no_late : ((s : ℕ) → x.start ≡ Some s → HasNoActive y) → NoLateSegments (two_parts x y)
   no_late h zero (suc zero) s m n less at bt e = rw (← same_Some _ _ bt) (h s (rw (← same_Some _ _ at) at e))
   no_late h p (suc (suc q)) s m n less at bt e = cc
@@ -198,7 +203,7 @@ second_fills_begins_well : BeginsWell offers_it second_fills
 unfolding wrapped
 second_fills_begins_well = (_, refl, refl)
 
--- ---- so the law speaks of them ----
+-- ---- traces of both ways ----
 
 abbrev answers_and_calls : List Move
 answers_and_calls = Answer [] ∷ (Call g [] ∷ [])

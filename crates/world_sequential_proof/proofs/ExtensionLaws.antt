@@ -1,4 +1,4 @@
--- What is taken from the laws of store extension.
+-- The laws of store extension on which the lemmas rest.
 use Rattle.world_extension_proof.specs.Extends.{StoresExtendThemselves, ExtensionIsTransitive, StepsExtend, OwnSegmentsExtend, SegmentsExtend}
 
 pub record ExtensionLaws : Type 0 where

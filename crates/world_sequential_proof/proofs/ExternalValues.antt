@@ -1,5 +1,5 @@
--- What the imports of a part denote is the same whether all parts are instantiated at once or the part's turn has come, where each joined import leads to
--- an earlier part.
+-- The imports of a part denote the same external values when all parts are instantiated at once and
+-- when the turn of the part has come, if each joined import leads to an earlier part.
 use Rattle.base_lists.proofs.Common.{◌≡◌, ◌∙◌, refl, sym, ap, ℕ, zero, suc, ◌+◌, ◌-◌, List, [], ◌∷◌, ◌++◌, length, Option, Some, None, cond, arith, option_and_then, slice_get, true, and_then_is, all_there_at, all_there_length, same_Some, append_at_left, append_right, slice_get_none, zero-add}
 use Rattle.base_lists.proofs.Options.{then_none}
 use Rattle.wasm_tree_spec.specs.Prelude.{Space, Functions, Tables, Memories, Globals, DataSegments, ElementSegments, Types, same_space, Import, ImportDesc, ExportDesc, Module, index_of_export, space_of_export, space_of_import}
@@ -23,7 +23,7 @@ space_is env parts k p m xs h = let x = and_then_is (all_there (import_address e
 
 -- ---- the external values that a list of imports denotes ----
 
--- in order, from a place on
+-- The external values of a list of imports, in order, numbered from a place on.
 abbrev pub each_from : (ℕ → Option ExternalValue) → List Import → ℕ → Option (List ExternalValue)
 each_from g [] n = Some []
 each_from g (i ∷ is) n = option_and_then (λ x. option_and_then (λ xs. Some (x ∷ xs)) (each_from g is (suc n))) (g n)
@@ -39,7 +39,7 @@ pub record Gathered (g : ℕ → Option ExternalValue) (is : List Import) (n : �
   pub mems : addresses_of Memories things ≡ ms
   pub globals : addresses_of Globals things ≡ gs
 
--- an external value that has an address of a kind is of that kind
+-- An external value that has an address of a kind is of that kind.
 pub thing_has : (k : Space) (x : ExternalValue) (a : ℕ) → address_of k x ≡ Some a → external_value_at k a ≡ Some x
 thing_has Functions (FuncAt b) a h = cc
 thing_has Tables (TableAt b) a h = cc
@@ -47,7 +47,7 @@ thing_has Memories (MemoryAt b) a h = cc
 thing_has Globals (GlobalAt b) a h = cc
 thing_has _ _ a h = cc
 
--- the first of these, and the rest
+-- The first address of a list and the rest.
 record Split (g : ℕ → Option ExternalValue) (k : Space) (n : ℕ) (rest : Option (List ℕ)) (xs : List ℕ) : Type 0 where
   address : ℕ
   is : g n ≡ external_value_at k address
@@ -95,16 +95,16 @@ walk_more next (suc n) a e h = elim (next a) as (λ o. walk_on (walk next n) o �
   | _ ↦ λ h. h
 ] h
 
--- where an import goes on to another, both have one end
+-- An import that leads to another has the same end as the other.
 pub goes_to : (parts : List Part) (s t : Site) (x : End) → import_step parts s ≡ Some (LeadsTo t) → end_of parts s ≡ Some x → end_of parts t ≡ Some x
 goes_to parts s t x e h = walk_more (import_step parts) (length (sites parts)) t x (rw e at h)
 
 pub ends_at : (parts : List Part) (s : Site) (x y : End) → import_step parts s ≡ Some (EndsWith y) → end_of parts s ≡ Some x → y ≡ x
 ends_at parts s x y e h = same_Some _ _ (rw e at h)
 
--- ---- what an entity of a part is, by its instance ----
+-- ---- the external value of an entity, by its part's instance ----
 
--- the addresses of the entities that an instance has
+-- The addresses of the entities of an instance, for each index space.
 abbrev pub space_in : Inst → Space → List ℕ
 space_in i Functions = i.funcs
 space_in i Tables = i.tables
@@ -146,7 +146,7 @@ module _ (env : Environment) (parts : List Part) (p : ℕ) (m : Module) (is_part
   as_import : imported_as parts entity ≡ option_and_then (λ n. Some (record { part = p; import = n })) (slice_get (imports_of k m) (index_of_export d))
   as_import = rw is_part
 
-  -- what a part defines
+  -- An exported definition of a part is the external value that was allocated for it.
   pub defined_is : imported_as parts entity ≡ None → address_in i d ≡ defined_external_value env parts entity
   defined_is none =
       let s = addresses in
@@ -157,7 +157,7 @@ module _ (env : Environment) (parts : List Part) (p : ℕ) (m : Module) (is_part
       let at : slice_get (space_in i k) (index_of_export d) ≡ slice_get (numbers (base env parts k p) (defined_count k m)) y = cc (sym s.2, append_right s.0 (numbers (base env parts k p) (defined_count k m)) y) in
       rw (address_is i d, is_part) (ap (option_and_then (external_value_at k)) at)
 
-  -- what it imports
+  -- An exported import of a part is the external value that the import denotes.
   pub imported_is : (t : Site) (x : ExternalValue) → imported_as parts entity ≡ Some t → imported_external_value env parts t ≡ Some x → address_in i d ≡ Some x
   imported_is t x e h =
       let s = addresses in

@@ -1,4 +1,5 @@
--- What a part adds to the store as its turn comes is what it adds where all parts are allocated at once.
+-- The entities that a part adds to the store in its turn are those that it adds when all parts are
+-- allocated at once.
 use Rattle.world_sequential_proof.proofs.PartLaws.{Instances}
 use Rattle.base_lists.proofs.Common.{◌≡◌, refl, ℕ, suc, List, [], ◌∷◌, length, Option, Some, option_and_then, slice_get, and_then_is, arith}
 use Rattle.wasm_tree_spec.specs.Prelude.{ConstExpr, GlobalDef, ElemSeg, DataSeg, Module}
@@ -11,7 +12,7 @@ use Rattle.world_sequential_proof.proofs.FillJobs.{Gives, Values}
 use Rattle.world_sequential_proof.proofs.OnePart.{EachMatches}
 use Rattle.world_sequential_proof.proofs.FillValues.{Constant, HoldsFixed, value_given}
 
--- the constant expressions of a module
+-- The constant expressions of a module read only immutable imported globals.
 pub record Constants (m : Module) : Type 0 where
   pub globals : (n : ℕ) (g : GlobalDef) → slice_get m.globals n ≡ Some g → Constant m g.init
   pub items : (n : ℕ) (s : ElemSeg) → slice_get m.elems n ≡ Some s → (l : ℕ) (e : ConstExpr) → slice_get s.items l ≡ Some e → Constant m e

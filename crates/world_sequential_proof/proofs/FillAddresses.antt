@@ -1,4 +1,5 @@
--- The addresses of a part's imports are lower than those of what it defines, and these lower than those of what later parts define.
+-- The addresses of a part's imports are lower than those of what it defines, and these lower than
+-- those of what later parts define.
 use Rattle.base_lists.proofs.Common.{◌≡◌, ◌∙◌, sym, ap, ℕ, suc, ◌+◌, ◌-◌, ◌<◌, List, length, Some, ◌⊎◌, inl, inr, arith, option_and_then, slice_get, true, and_then_is, all_there_at, append_at_left, place_back, number_is, numbers_at}
 use Rattle.wasm_tree_spec.specs.Prelude.{Space, Import, ImportDesc, Module, index_of_export, space_of_export, space_of_import}
 use Rattle.wasm_meaning.specs.Prelude.{Pair, Inst, walk_on, walk, Part, Site, Entity, End, Defined, Outside, imports_of, module_at, import_at, pair_of, import_step, end_of, sites, has_kind, Environment, ExternalValue, OwnKey, defined_count, own_count, base, external_value_at, address_of, own_key_of}
@@ -15,7 +16,7 @@ use Rattle.world_simulation.specs.Prelude.{IsInst, imports, defines}
 use Rattle.wasm_meaning.specs.Counted.{EachPartAddsItsDefinitions}
 use Rattle.world_sequential_proof.proofs.PartLaws.{Instances}
 
--- what an import adds to are index spaces of entities
+-- Only index spaces of functions, tables, memories and globals have imports.
 pub imported_external : (k : Space) (is : List Import) (x n : ℕ) → slice_get (places (has_kind k) is 0) x ≡ Some n → is_external k ≡ true
 imported_external k is x n h = let r = place_back (has_kind k) is 0 x n h in let kind : k ≡ space_of_import r.1.desc = grind (arith, r.4) in rw kind (grind arith)
 
@@ -27,13 +28,13 @@ key_kind m pair d key e = grind arith
 pub numbers_low : (from count n a : ℕ) → slice_get (numbers from count) n ≡ Some a → a < from + count
 numbers_low from count n a e = omega (arith, number_is from count n a e)
 
--- ---- where an import's address comes from ----
+-- ---- the origin of an import's address ----
 
 module _ (env : Environment) (parts : List Part) where
   pub base_next : EachPartAddsItsDefinitions → (k : Space) (p : ℕ) (m : Module) → module_at parts p ≡ Some m → base env parts k (suc p) ≡ base env parts k p + defined_count k m
   base_next next k p m e = omega (arith, next k parts p m e)
 
-  -- an earlier part defines it
+  -- The address of an import that is that of a definition of an earlier part.
   pub record AtDefined (k : Space) (s : Site) (a : ℕ) : Type 0 where
     pub entity : Entity
     pub end : end_of parts s ≡ Some (Defined entity)
@@ -42,7 +43,7 @@ module _ (env : Environment) (parts : List Part) where
     pub within : index_of_export entity.what - length (imports_of k is.of) < defined_count k is.of
     pub address : a ≡ base env parts k entity.part + (index_of_export entity.what - length (imports_of k is.of))
 
-  -- it is the environment's own
+  -- The address of an import that is that of an entity of the environment's own.
   pub record AtOwn (k : Space) (s : Site) (a : ℕ) : Type 0 where
     pub last : Site
     pub end : end_of parts s ≡ Some (Outside last)
@@ -89,7 +90,7 @@ module _ (env : Environment) (parts : List Part) where
               low = rw (both.0, both.1) at own.low;
             })
 
-    -- it is lower than what the part itself defines
+    -- The address of an import is lower than those of the definitions of the part itself.
     pub imported_low : EachPartAddsItsDefinitions → (k : Space) (s : Site) (x : ExternalValue) (a : ℕ) → imported_external_value env parts s ≡ Some x → address_of k x ≡ Some a → a < base env parts k s.part
     imported_low defined_next k s x a h has = elim (imported_at k s x a h has) [
       | inl d ↦
@@ -99,7 +100,7 @@ module _ (env : Environment) (parts : List Part) where
       | inr o ↦ omega arith
     ]
 
-    -- what a part's instance has is lower than what later parts define
+    -- The addresses of a part's instance are lower than those of the definitions of later parts.
     pub space_low : {insts : List Inst} → Instances env parts insts → (p : ℕ) (m : Module) (i : Inst) → module_at parts p ≡ Some m → IsInst env parts p m i → (k : Space) (x a : ℕ) → slice_get (space_in i k) x ≡ Some a → a < base env parts k (suc p)
     space_low are p m i is_part inst k x a e =
         let s = are.spaces env parts k p m (space_in i k) (in_space env parts p m i inst k (held_external i k x a e)) in
@@ -112,7 +113,7 @@ module _ (env : Environment) (parts : List Part) where
           | defines j is low at ↦ omega arith
         ]
 
-  -- an import of a part has its address in the part's instance
+  -- An import of a part has its address in the part's instance.
   pub record HasAddress (k : Space) (s : Site) (i : Inst) (x : ℕ) : Type 0 where
     pub address : ℕ
     pub at : slice_get (space_in i k) x ≡ Some address

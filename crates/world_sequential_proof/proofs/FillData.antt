@@ -1,4 +1,4 @@
--- Active segments of data are a matter of memories and of segments of data alone.
+-- Active data segments depend on and change only the memories and the data segments of a store.
 use Rattle.base_lists.proofs.Common.{◌≡◌, arith, refl, ℕ, List, [], ◌∷◌, map, Option, Some, false, option_and_then, slice_get, slice_set, None}
 use Rattle.wasm_tree_spec.specs.Prelude.{ConstExpr, DataSeg, DataMode}
 use Rattle.wasm_tree.specs.declared.module.DataMode.TheVariants as data'

@@ -1,4 +1,5 @@
--- The stores of parts that are instantiated sequentially where no code has run, for the sequential run: how the store at once is laid out, and what a part adds.
+-- The stores of parts that are instantiated sequentially, as long as no code has run: the layout of
+-- the allocated store, and the entities that a part adds.
 use Rattle.world_sequential_proof.proofs.PartLaws.{Instances}
 use Rattle.base_lists.proofs.Common.{◌≡◌, refl, ℕ, List, length, Some, slice_get}
 use Rattle.wasm_tree_spec.specs.Prelude.{Module}
@@ -17,7 +18,7 @@ module _ (env : Environment) (parts : List Part) (insts : List Inst) (are : Inst
   pub adds_at : (k : ℕ) (m : Module) (i : Inst) → module_at parts k ≡ Some m → slice_get insts k ≡ Some i → part_store env parts insts k m i ≡ Some (or_no_store (added_at env parts insts k))
   adds_at k m i is_part is_inst = let a = part_adds env parts insts allocated stores_are size k m i is_part is_inst in rw (added_is env parts insts k m i a.0 is_part is_inst a.1) a.1
 
-  -- how the store at once is laid out
+  -- The layout of the store of all parts at once.
   abbrev pub laid : Laid env parts insts allocated
   laid = record {
     defined_next = are.next;
@@ -33,11 +34,11 @@ module _ (env : Environment) (parts : List Part) (insts : List Inst) (are : Inst
     part_adds = adds_at;
   }
 
-  -- what a part adds as its turn comes
+  -- The entities that a part adds in its turn.
   pub store_same : (k : ℕ) (m : Module) (i : Inst) (t : Store) → Constants m → module_at parts k ≡ Some m → slice_get insts k ≡ Some i → Holds env parts k allocated t → store_with (const_value t.globals i) m i ≡ Some (laid.adds k)
   store_same k m i t c is_part is_inst h =
       added_same env parts insts are allocated stores_are matched size there earlier k m i is_part is_inst c t (λ a g low at fixed. let y = h.globals a g low at in (y.0, y.1, y.2.fixed fixed)) (laid.adds k) (adds_at k m i is_part is_inst)
 
-  -- what is there after the first parts' segments
+  -- The store after the segments of the first parts has as many entities as these parts.
   pub filled_sized : (k : ℕ) (t : Store) → FilledUpto env parts insts allocated k t → Sized env parts k t
   filled_sized k t h = h.lengths

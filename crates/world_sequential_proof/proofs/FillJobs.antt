@@ -1,4 +1,4 @@
--- The segments of parts, of elements or of data, as jobs.
+-- The element or data segments of parts, as jobs.
 use Rattle.base_lists.proofs.Common.{◌≡◌, ◌∙◌, refl, sym, ap, ℕ, add-zero, zero-add, suc, ◌+◌, ◌<◌, List, [], ◌∷◌, ◌++◌, map, length, Option, Some, Bool, false, arith, unwrap_or, slice_get, map-append, and_then_is, add_next}
 use Rattle.base_lists.specs.Options.{◌>>=◌}
 use Rattle.wasm_tree_spec.specs.Prelude.{ConstExpr, Module}
@@ -7,18 +7,18 @@ use Rattle.wasm_meaning.specs.Environment.{any_of}
 use Rattle.world_simulation.specs.Prelude.{offset_in}
 use Rattle.world_sequential_proof.proofs.FillRuns.{Lists, Job, Skip, runs, rest_jobs, LowJob, LowJobs, low_none, low_more, Kept, KeptAll, kept_none, kept_more}
 
--- the values of constant expressions
+-- The values of constant expressions, where they have one.
 abbrev pub Values : Type 0
 Values = ConstExpr → Option Val
 
--- where the second has each value that the first has
+-- The second assignment of values has each value that the first has.
 abbrev pub Gives : (v w : Values) → ConstExpr → Type 0
 Gives v w e = (u : Val) → v e ≡ Some u → w e ≡ Some u
 
 pub number_given : (v w : Values) (e : ConstExpr) → Gives v w e → (a : ℕ) → offset_in v e ≡ Some a → offset_in w e ≡ Some a
 number_given v w e h a k = let u = and_then_is (v e) _ a k in rw (h u.0 u.1) u.2
 
--- each of these is lower
+-- Each number of the list is lower than this one.
 abbrev pub AllBelow : ℕ → List ℕ → Type 0
 AllBelow n xs = (x a : ℕ) → slice_get xs x ≡ Some a → a < n
 
@@ -44,14 +44,14 @@ module _ {S : Type 0} (job : Values → Inst → ℕ → S → Job) where
   jobs_kept v w i _ _ h = kept_none
 
   module _ (X Y : Type 0) (fill : X → Y → ℕ → Option X) (empty : Y) where
-    -- those that are not active do nothing
+    -- Segments that are not active change nothing.
     pub jobs_skip : (active : S → Bool) → ((value : Values) (i : Inst) (n : ℕ) (s : S) → active s ≡ false → job value i n s ≡ Skip) → (value : Values) (i : Inst) (ns : List ℕ) (ss : List S) → any_of active ss ≡ false →
         (c : Lists X Y) → runs X Y fill empty (jobs value i ns ss) c ≡ Some c
     jobs_skip active f value i (n ∷ ns) (s ∷ ss) h c = grind (arith, f value i n s, jobs_skip active f value i ns ss)
     jobs_skip active f value i _ _ h c = refl
 
     module _ (addresses : Inst → List ℕ) (segments_of : Module → List S) (env : Environment) (parts : List Part) (insts : List Inst) where
-      -- the segments of part k
+      -- The jobs of the segments of part k.
       abbrev pub jobs_of : ℕ → List Job
       jobs_of k = unwrap_or (module_at parts k >>= λ m. slice_get insts k >>= λ i. Some (jobs (value_of env parts insts k) i (addresses i) (segments_of m))) []
 
@@ -69,7 +69,7 @@ module _ {S : Type 0} (job : Values → Inst → ℕ → S → Job) where
       abbrev rest : (count k : ℕ) → List Job
       rest = rest_jobs X Y fill empty jobs_of
 
-      -- the tasks of all parts, by part
+      -- The tasks of all parts, by part.
       module _ (tasks : ℕ → List Part → List Inst → List (PlacedSegment S)) (no_tasks : (p : ℕ) → tasks p [] [] ≡ [])
           (more_tasks : (p : ℕ) (part : Part) (ps : List Part) (i : Inst) (is : List Inst) → tasks p (part ∷ ps) (i ∷ is) ≡ segments_in p i (addresses i) (segments_of part.«module») ++ tasks (suc p) ps is) where
         by_part : (p : ℕ) (ps : List Part) (is : List Inst) → ((q : ℕ) → module_at ps q ≡ module_at parts (p + q)) → ((q : ℕ) → slice_get is q ≡ slice_get insts (p + q)) → length is ≡ length ps → map (task_job (value_of env parts insts)) (tasks p ps is) ≡ rest (length ps) p

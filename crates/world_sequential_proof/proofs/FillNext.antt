@@ -1,4 +1,5 @@
--- The next part's active segments, as its turn comes: what they do at once, with those of the parts before it and none of later ones.
+-- The active segments of the next part, in its turn: they have the effect that they have at once,
+-- after those of the parts before it and before those of later parts.
 use Rattle.world_sequential_proof.proofs.PartLaws.{Instances}
 use Rattle.world_sequential_proof.proofs.ExternalValues.{part_inst}
 use Rattle.base_lists.proofs.Common.{◌≡◌, ◌∙◌, refl, ℕ, suc, List, ◌++◌, length, Some, false, append_assoc, arith, slice_get, and_then_is, slice_get_within}
@@ -20,7 +21,7 @@ use Rattle.world_simulation.specs.Prelude.{IsInst}
 
 module _ (env : Environment) (parts : List Part) (insts : List Inst) (are : Instances env parts insts) (allocated : Store) (stores_are : stores_from env parts insts (own_store env) 0 parts insts ≡ Some allocated) (matched : EachMatches env parts allocated) (size : length insts ≡ length parts)
     (there : ExportsThere parts) (earlier : JoinsEarlier parts) where
-  -- the store after the segments of part k, where nothing else has changed
+  -- The store after the segments of part k, in which nothing else has changed.
   pub record StoreFilled (k : ℕ) (m : Module) (i : Inst) (t a : Store) : Type 0 where
     pub store : Store
     pub is : own_segments (const_value t.globals i) m i (joined_stores t a) ≡ record { store = store; trapped = false }
@@ -41,7 +42,7 @@ module _ (env : Environment) (parts : List Part) (insts : List Inst) (are : Inst
     abbrev later : Store
     later = rest_from env parts insts (suc k)
 
-    -- the part's own segments are before those of later parts
+    -- The addresses of the part's own segments are lower than those of later parts.
     own_low : (s : Space) (ns : List ℕ) → ns ≡ numbers (defined_before s parts k) (defined_count s m) → AllBelow (defined_before s parts (suc k)) ns
     own_low s ns ns_are x b at =
         let l = numbers_low (defined_before s parts k) (defined_count s m) x b (rw ns_are at at) in
@@ -49,7 +50,7 @@ module _ (env : Environment) (parts : List Part) (insts : List Inst) (are : Inst
         omega arith
 
     module _ (constants : Constants m) where
-      -- a constant expression of the part has its value as its turn comes
+      -- A constant expression of the part has its value in the part's turn.
       given : (e : ConstExpr) → Constant m e → (v : Val) → value_of env parts insts k e ≡ Some v → const_value t.globals i e ≡ Some v
       given = value_given env parts insts are allocated stores_are matched size there earlier k m i is_part is_inst t (filled_holds env parts insts allocated k t filled)
 

@@ -1,4 +1,5 @@
--- The environment's own entities have addresses of their kind, below the number of what it has.
+-- The environment's own entities have addresses of their kind, below the number of its entities of
+-- that kind.
 use Rattle.base_lists.proofs.Common.{◌≡◌, ◌∙◌, refl, sym, ap, ℕ, suc, ◌+◌, ◌<◌, List, [], ◌∷◌, ◌++◌, map, length, Option, Some, None, Bool, true, ◌⊎◌, inl, inr, arith, add-zero, zero-add, cases_Bool, same_Some, append_rel, self_rel, maps_rel, add_next}
 use Rattle.wasm_tree_spec.specs.Prelude.{Space, Functions, Tables, Memories, Globals}
 use Rattle.wasm_meaning.specs.Prelude.{Environment, Offer, OwnKey, FuncKey, TableKey, MemoryKey, GlobalKey, ExternalValue, FuncAt, TableAt, MemoryAt, GlobalAt, Owned, same_key, look_up, owned_at, owned_of, addressed, flat, one_if, own_funcs, own_tables, own_memories, own_globals, own_count}
@@ -14,7 +15,7 @@ kind_of_key (GlobalKey p) = Globals
 same_key_kind : (x y : OwnKey) → same_key x y ≡ true → kind_of_key x ≡ kind_of_key y
 same_key_kind x y e = grind arith
 
--- keys of one kind, one for each entity
+-- The keys of one kind, one for each entity.
 abbrev Keys : Space → {A : Type 0} → List OwnKey → List A → Type 0
 Keys k = ListRel (λ key _. kind_of_key key ≡ k)
 
@@ -30,7 +31,7 @@ look_either : (is : OwnKey → Bool) (xs ys : Owned) (x : ExternalValue) → loo
 look_either is [] ys x e = inr e
 look_either is (z ∷ zs) ys x e = grind (arith, look_either is zs ys x)
 
--- what is found among keys of one kind
+-- The external value that is found among keys of one kind, with its place.
 record Found (key : OwnKey) (thing : ℕ → ExternalValue) (n : ℕ) (k : Space) (count : ℕ) (x : ExternalValue) : Type 0 where
   place : ℕ
   is : x ≡ thing (n + place)
@@ -44,7 +45,7 @@ look_addressed key thing k n (cons {a = y} h hs) x e = elim (cases_Bool (same_ke
   | inr s ↦ let f = look_addressed key thing k (suc n) hs x (rw s at e) in record { place = suc f.place; is = rw (← add_next n f.place) at f.is; low = omega (arith, f.low); kind = f.kind }
 ]
 
--- the address of the environment's own entity
+-- The address of an entity of the environment's own.
 pub record OwnAt (env : Environment) (key : OwnKey) (x : ExternalValue) : Type 0 where
   pub address : ℕ
   pub is : Some x ≡ external_value_at (kind_of_key key) address

@@ -1,11 +1,12 @@
--- Where each joined import leads to an earlier part, an import ends with what an earlier part defines, or with an import that stays.
+-- The ends of imports, if each joined import leads to an earlier part: an entity that an earlier
+-- part defines, or an import that stays.
 use Rattle.base_lists.proofs.Common.{◌≡◌, refl, ap, ℕ, zero, suc, ◌+◌, ◌<◌, ◌≤◌, List, length, Option, Some, None, arith, option_and_then, slice_get, slice_get_none, and_then_is, same_Some}
 use Rattle.base_lists.proofs.Options.{then_none}
 use Rattle.wasm_tree_spec.specs.Prelude.{Import, Module, index_of_export, space_of_export}
 use Rattle.wasm_meaning.specs.Prelude.{PathStep, EndsWith, walk, walk_on, Part, Site, Entity, End, Defined, Outside, imports_of, module_at, import_at, export_named, source_of, joined, imported_as, joined_step, import_step, end_of, sites, defined_count, JoinsEarlier}
 use Rattle.world_sequential_proof.proofs.Joined.{ExportsThere}
 
--- the end of an import of part p
+-- An end of an import of part p that an earlier part defines.
 pub record LowInside (parts : List Part) (p : ℕ) (e : Entity) : Type 0 where
   pub before : e.part < p
   pub of : Module
@@ -21,7 +22,7 @@ low_later : (parts : List Part) (p q : ℕ) (end : End) → p < q → Low parts 
 low_later parts p q (Defined e) l (inside h) = let b = h.before in inside (record { before = omega arith; of = h.of; is_part = h.is_part; follows = h.follows; within = h.within })
 low_later parts p q (Outside t) l (outside h) = outside h
 
--- what an import is joined with is exported there
+-- The entity with which an import is joined is exported by its part.
 pub record Exported (parts : List Part) (i : Import) (e : Entity) : Type 0 where
   pub of : Module
   pub is_part : module_at parts e.part ≡ Some of

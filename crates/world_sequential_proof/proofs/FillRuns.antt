@@ -1,19 +1,20 @@
--- Segments that are copied part by part, as a matter of two lists alone: what is written to, and the segments, which are dropped.
--- What stands behind all that is written stays, and does not matter.
+-- Segments that are copied part by part, in terms of two lists alone: the tables or memories that
+-- are written, and the segments, which are dropped. What follows the written part of the lists
+-- stays as it is and has no effect.
 use Rattle.base_lists.proofs.Common.{◌≡◌, ◌∙◌, refl, sym, ap₂, ℕ, zero, suc, ◌-◌, ◌<◌, ◌≤◌, List, [], ◌∷◌, ◌++◌, length, Option, Some, append_assoc, arith, slice_get, slice_set, length-set, append_left, and_then_is, same_Some}
 use Rattle.base_lists.specs.Options.{◌>>=◌}
 use Rattle.std.proofs.lemmas.List.{set-append_left}
 
--- what is written to, and the segments
+-- The list of targets that are written, and the list of segments.
 abbrev pub Lists : Type 0 → Type 0 → Type 0
 Lists X Y = List X × List Y
 
--- a segment, where it goes and from where on; or one that is not copied
+-- A segment with its target and offset, or one that is not copied.
 pub data Job : Type 0 where
   Skip : Job
   Fill : (segment : ℕ) → (target offset : Option ℕ) → Job
 
--- it writes no further than this
+-- A job that uses only targets and segments below these numbers.
 pub data LowJob (targets segments : ℕ) : Job → Type 0 where
   low_skip : LowJob targets segments Skip
   low_fill : {n : ℕ} {target offset : Option ℕ} → n < segments → ((a : ℕ) → target ≡ Some a → a < targets) → LowJob targets segments (Fill n target offset)
@@ -22,7 +23,7 @@ pub data LowJobs (targets segments : ℕ) : List Job → Type 0 where
   low_none : LowJobs targets segments []
   low_more : {j : Job} {js : List Job} → LowJob targets segments j → LowJobs targets segments js → LowJobs targets segments (j ∷ js)
 
--- the second has the first's offset where that is there
+-- The second job is the first with its offset, if the first has an offset.
 pub data Kept : Job → Job → Type 0 where
   kept_skip : Kept Skip Skip
   kept_fill : {n : ℕ} {target o p : Option ℕ} → ((a : ℕ) → o ≡ Some a → p ≡ Some a) → Kept (Fill n target o) (Fill n target p)
@@ -102,12 +103,12 @@ module _ (X Y : Type 0) (fill : X → Y → ℕ → Option X) (empty : Y) where
   -- ---- by part ----
 
   module _ (jobs_of : ℕ → List Job) where
-    -- those of the first k parts
+    -- The jobs of the first k parts.
     abbrev pub first_jobs : ℕ → List Job
     first_jobs zero = []
     first_jobs (suc k) = first_jobs k ++ jobs_of k
 
-    -- those of so many parts from k on
+    -- The jobs of a number of parts from part k on.
     abbrev pub rest_jobs : (count k : ℕ) → List Job
     rest_jobs zero k = []
     rest_jobs (suc count) k = jobs_of k ++ rest_jobs count (suc k)
@@ -118,18 +119,20 @@ module _ (X Y : Type 0) (fill : X → Y → ℕ → Option X) (empty : Y) where
         let e : n - k ≡ suc (n - suc k) = omega arith in
         rw (jobs_split n k (omega arith), e, append_assoc)
 
-    -- where these do nothing
+    -- The jobs of these parts change nothing, if those of each part change nothing.
     pub rest_skips : (count k : ℕ) → ((q : ℕ) → k ≤ q → (c : Lists X Y) → runs (jobs_of q) c ≡ Some c) → (c : Lists X Y) → runs (rest_jobs count k) c ≡ Some c
     rest_skips zero k h c = refl
     rest_skips (suc count) k h c = rw (runs_both (jobs_of k) (rest_jobs count (suc k)) c, h k (omega arith) c) (rest_skips count (suc k) (λ q l. h q (omega arith)) c)
 
-    -- what the next part's do, where all of them are done
+    -- The jobs of the next part succeed after those of the first parts, if the jobs of all parts
+    -- succeed.
     pub next_runs : (n k : ℕ) → k < n → (a c d : Lists X Y) → runs (rest_jobs n 0) a ≡ Some d → runs (first_jobs k) a ≡ Some c → (e : Lists X Y) × (runs (jobs_of k) c ≡ Some e) × (runs (first_jobs (suc k)) a ≡ Some e)
     next_runs n k l a c d h first =
         let e : n - k ≡ suc (n - suc k) = omega arith in
         let b = and_then_is (runs (jobs_of k) c) _ d (rw (jobs_split n k (omega arith), e, runs_both (first_jobs k), first, runs_both (jobs_of k)) at h) in
         (b.0, b.1, rw (runs_both (first_jobs k) (jobs_of k) a, first) b.1)
 
-    -- all are done, where the rest do nothing
+    -- The jobs of all parts have the effect of those of the first parts, if the rest change
+    -- nothing.
     pub all_runs : (n k : ℕ) → k ≤ n → (a c : Lists X Y) → runs (first_jobs k) a ≡ Some c → ((q : ℕ) → k ≤ q → (c : Lists X Y) → runs (jobs_of q) c ≡ Some c) → runs (rest_jobs n 0) a ≡ Some c
     all_runs n k l a c first h = rw (jobs_split n k l, runs_both (first_jobs k) (rest_jobs (n - k) k) a, first) (rest_skips (n - k) k h c)

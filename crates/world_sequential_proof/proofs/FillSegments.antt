@@ -1,4 +1,5 @@
--- Active segments that are copied as each part's turn comes do what they do where all parts are instantiated at once.
+-- Active segments that are copied in each part's turn have the effect that they have when all parts
+-- are instantiated at once.
 use Rattle.base_lists.proofs.Common.{◌≡◌, ◌∙◌, refl, ℕ, ◌≤◌, List, ◌++◌, map, length, Option, Some, false, arith, slice_get, append_left}
 use Rattle.wasm_tree_spec.specs.Prelude.{ElemSeg, DataSeg, Module}
 use Rattle.wasm_meaning.specs.Prelude.{Inst, Table, Memory, Elem, Data, Store, no_items, no_bytes, Part, module_at, Environment, Filled, PlacedSegment, own_store, stores_from, joined_stores, value_of, segments_in, placed_elems, placed_datas, and_then, one_by_one, segments, HasNoActive, own_segments}
@@ -27,19 +28,19 @@ module _ (value : ℕ → Values) (es : List (PlacedSegment ElemSeg)) (ds : List
       go (goes_on {c = c}) e = let d = turned_not (datas_turned value ds (with_tables s c)) e in (c, d.0, refl, d.1)
       go stops e = cc
 
--- one module's own
+-- The segments of one module succeed if its jobs do.
 pub own_go : (value : Values) (m : Module) (i : Inst) (s : Store) (c : Lists Table Elem) (d : Lists Memory Data) → elem_runs (elem_jobs value i i.elems m.elems) (s.tables, s.elems) ≡ Some c → data_runs (data_jobs value i i.datas m.datas) (s.mems, s.datas) ≡ Some d →
     own_segments value m i s ≡ record { store = record s { tables = c.0; elems = c.1; mems = d.0; datas = d.1 }; trapped = false }
 own_go value m i s c d g h = both_go (λ p. value) (segments_in 0 i i.elems m.elems) (segments_in 0 i i.datas m.datas) s c d (rw (tasks_jobs elem_segment (λ p. value)) g) (rw (tasks_jobs data_segment (λ p. value)) h)
 
--- a module with no active segment writes nothing
+-- A module with no active segment leaves the store as it is.
 pub none_active : (value : Values) (m : Module) (i : Inst) (s : Store) → HasNoActive m → own_segments value m i s ≡ record { store = s; trapped = false }
 none_active value m i s h = own_go value m i s (s.tables, s.elems) (s.mems, s.datas)
     (jobs_skip elem_segment Table Elem table_fill no_items (λ e. is_active_elem e.mode) elem_skips value i i.elems m.elems h.elems (s.tables, s.elems))
     (jobs_skip data_segment Memory Data memory_fill no_bytes (λ d. is_active_data d.mode) data_skips value i i.datas m.datas h.datas (s.mems, s.datas))
 
 module _ (env : Environment) (parts : List Part) (insts : List Inst) where
-  -- the segments of part k
+  -- The element and data segments of part k, as jobs.
   abbrev pub elem_jobs_of : ℕ → List Job
   elem_jobs_of = jobs_of elem_segment Table Elem table_fill no_items (λ i. i.elems) (λ m. m.elems) env parts insts
 
@@ -53,13 +54,14 @@ module _ (env : Environment) (parts : List Part) (insts : List Inst) where
     pub data_jobs_at : data_jobs_of k ≡ data_jobs (value_of env parts insts k) i i.datas m.datas
     data_jobs_at = jobs_at data_segment Memory Data memory_fill no_bytes (λ i. i.datas) (λ m. m.datas) env parts insts k m i is_part is_inst
 
-  -- what the parts from k on add
+  -- The store that the parts from k on add.
   abbrev rest : ℕ → Store
   rest = rest_from env parts insts
 
-  -- ---- the first k parts' segments ----
+  -- ---- the segments of the first k parts ----
 
-  -- with what the parts from k on add, the store is what was allocated, after the segments of the first k parts: of elements and then of data, none out of bounds
+  -- The store, joined with what the parts from k on add, is the allocated store after the element
+  -- segments and then the data segments of the first k parts, none of them out of bounds.
   pub record FilledUpto (allocated : Store) (k : ℕ) (t : Store) : Type 0 where
     pub tables : elem_runs (first_jobs Table Elem table_fill no_items elem_jobs_of k) (allocated.tables, allocated.elems) ≡ Some (t.tables ++ (rest k).tables, t.elems ++ (rest k).elems)
     pub mems : data_runs (first_jobs Memory Data memory_fill no_bytes data_jobs_of k) (allocated.mems, allocated.datas) ≡ Some (t.mems ++ (rest k).mems, t.datas ++ (rest k).datas)
@@ -67,7 +69,7 @@ module _ (env : Environment) (parts : List Part) (insts : List Inst) where
     pub globals : allocated.globals ≡ t.globals ++ (rest k).globals
     pub lengths : Lengths env parts insts k t
 
-  -- the condition under which constant expressions have their values
+  -- The premise under which constant expressions have their values holds of such a store.
   pub filled_holds : (allocated : Store) (k : ℕ) (t : Store) → FilledUpto allocated k t → HoldsFixed env parts allocated k t
   filled_holds allocated k t h a g low at fixed =
       let n = h.lengths.globals in
@@ -83,7 +85,7 @@ module _ (env : Environment) (parts : List Part) (insts : List Inst) where
     pub all_datas : map (data_task_job (value_of env parts insts)) (placed_datas 0 parts insts) ≡ rest_jobs Memory Data memory_fill no_bytes data_jobs_of (length parts) 0
     all_datas = all_by_part data_segment Memory Data memory_fill no_bytes (λ i. i.datas) (λ m. m.datas) env parts insts placed_datas (λ p. refl) (λ p part ps i is. refl) size
 
-    -- where no part from k on has an active segment, nothing more is copied
+    -- All segments are copied, if no part from k on has an active segment.
     pub filled_all : (k : ℕ) (t : Store) → k ≤ length parts → FilledUpto allocated k t → ((q : ℕ) (m : Module) → k ≤ q → module_at parts q ≡ Some m → HasNoActive m) → segments env parts insts allocated ≡ record { store = joined_stores t (rest k); trapped = false }
     filled_all k t l filled none =
         let es = all_runs Table Elem table_fill no_items elem_jobs_of (length parts) k l _ _ filled.tables (λ q h. jobs_none elem_segment Table Elem table_fill no_items (λ i. i.elems) (λ m. m.elems) env parts insts (λ e. is_active_elem e.mode) elem_skips q (λ m e. (none q m h e).elems)) in

@@ -1,4 +1,5 @@
--- The store of all parts at once is what the first of them add, then what the rest add.
+-- The store of all parts at once is the store of the first parts, joined with the store that the
+-- rest add.
 use Rattle.base_lists.proofs.Common.{◌≡◌, ◌∙◌, sym, ap, ℕ, zero, suc, ◌+◌, ◌-◌, ◌<◌, ◌≤◌, List, [], ◌∷◌, length, Option, Some, None, append_assoc, arith, add-zero, zero-add, slice_get, slice_get_there, slice_get_within, refl, append-nil, length-append, and_then_is, same_Some, add_next}
 use Rattle.base_lists.proofs.Common.{all_there_length, length-map}
 use Rattle.base_lists.specs.Options.{◌>>=◌}
@@ -22,29 +23,29 @@ joined_none s = simp append-nil
 pub joined_twice : (s t u : Store) → joined_stores (joined_stores s t) u ≡ joined_stores s (joined_stores t u)
 joined_twice s t u = simp append_assoc
 
--- how many entities a part adds
+-- The rules for the number of entities that a part adds.
 ruleset counts = (arith, all_there_length, length-map)
 
 module _ (env : Environment) (parts : List Part) (insts : List Inst) where
-  -- what part k adds
+  -- The store that part k adds.
   abbrev pub added_at : ℕ → Option Store
   added_at k = module_at parts k >>= λ m. slice_get insts k >>= (part_store env parts insts k m)
 
-  -- what so many parts from k on add
+  -- The store that a number of parts from part k on add.
   abbrev pub rest_for : (count k : ℕ) → Store
   rest_for zero k = empty_store
   rest_for (suc count) k = joined_stores (or_no_store (added_at k)) (rest_for count (suc k))
 
-  -- what the parts from k on add
+  -- The store that all parts from part k on add.
   abbrev pub rest_from : ℕ → Store
   rest_from k = rest_for (length parts - k) k
 
-  -- what the environment and the first k parts add
+  -- The store of the environment and the first k parts.
   abbrev pub first_stores : ℕ → Store
   first_stores zero = own_store env
   first_stores (suc k) = joined_stores (first_stores k) (or_no_store (added_at k))
 
-  -- as many of each kind as the environment and the first k parts have
+  -- A store has as many entities of each kind as the environment and the first k parts.
   abbrev pub Lengths : ℕ → Store → Type 0
   Lengths = Sized env parts
 
@@ -100,7 +101,8 @@ module _ (env : Environment) (parts : List Part) (insts : List Inst) where
 
   -- ---- the store of all parts ----
 
-  -- the first parts and those after them
+  -- The store of the first parts, joined with the store of the parts after them, is that of all of
+  -- these.
   joined_rest : (n k : ℕ) → joined_stores (first_stores k) (rest_for n k) ≡ first_stores (n + k)
   joined_rest zero k = joined_none (first_stores k) ∙ rw zero-add
   joined_rest (suc n) k = rw (← add_next n k) (sym (joined_twice (first_stores k) _ (rest_for n (suc k))) ∙ joined_rest n (suc k))
@@ -128,7 +130,7 @@ module _ (env : Environment) (parts : List Part) (insts : List Inst) where
     pub allocated_whole : allocated ≡ joined_stores (own_store env) (rest_from 0)
     allocated_whole = whole_at 0 (omega arith)
 
-    -- each part has its instance
+    -- Each part has its instance.
     pub inst_there : (k : ℕ) → k < length parts → (m : Module) × (i : Inst) × (module_at parts k ≡ Some m) × (slice_get insts k ≡ Some i)
     inst_there k l =
         let p = slice_get_there parts k l in

@@ -1,4 +1,4 @@
--- Active segments of elements are a matter of tables and of segments of elements alone.
+-- Active element segments depend on and change only the tables and the element segments of a store.
 use Rattle.base_lists.proofs.Common.{◌≡◌, arith, refl, ℕ, List, [], ◌∷◌, map, Option, Some, None, true, false, option_and_then, slice_get, slice_set, same_Some}
 use Rattle.wasm_tree_spec.specs.Prelude.{ConstExpr, ElemSeg, ElemMode}
 use Rattle.wasm_tree.specs.declared.module.ElemMode.TheVariants as elem
@@ -8,7 +8,8 @@ use Rattle.world_simulation.specs.Prelude.{offset_in}
 use Rattle.world_sequential_proof.proofs.FillRuns.{Lists, Job, Skip, Fill, run, runs, LowJob, low_skip, low_fill, LowJobs, Kept, kept_skip, kept_fill, KeptAll}
 use Rattle.world_sequential_proof.proofs.FillJobs.{AllBelow, Gives, Values, number_given, jobs, task_job, jobs_low, jobs_kept}
 
--- with the lists that come out set into the store; or a segment was out of bounds
+-- The outcome of copying segments: the resulting lists are put into the store, or a segment was out
+-- of bounds.
 pub data Turned {X Y : Type 0} (set : Lists X Y → Store) : Option (Lists X Y) → Filled → Type 0 where
   goes_on : {c : Lists X Y} → Turned set (Some c) (record { store = set c; trapped = false })
   stops : {u : Store} → Turned set None (record { store = u; trapped = true })

@@ -1,4 +1,5 @@
--- What valid parts give: their constant expressions read imports that are not mutable, and what they export is there.
+-- What validity of the parts implies: their constant expressions read immutable imports, and the
+-- entities that they export exist.
 use Rattle.base_lists.proofs.Common.{◌≡◌, ◌∙◌, sym, ap, ℕ, ◌+◌, ◌<◌, List, map, length, Some, arith, not, nat_lt, slice_get, ltb-true, and_parts, not-true, length-append, length-map, slice_get_within, same_Some, slice_get_there, append_left, place_of, and_then_is, only_true, places_many}
 use Rattle.wasm_tree_spec.specs.Prelude.{Functions, Tables, Memories, Globals, imported_funcs, imported_tables, imported_memories, ValType, Ref, GlobalType, Import, ExportDesc, ConstExpr, GlobalDef, ElemSeg, DataSeg, Module, global_of, imported_globals, globals_of, index_of_export, space_of_export}
 use Rattle.wasm_tree.specs.declared.module.ImportDesc.TheVariants as im
@@ -13,7 +14,7 @@ use Rattle.world_sequential_proof.proofs.FillAdded.{Constants}
 
 -- ---- imports of globals ----
 
--- an imported global of a place in its space
+-- The import of a global, by the global's index.
 record Imported (m : Module) (x : ℕ) (type : GlobalType) : Type 0 where
   at : ℕ
   import : Import

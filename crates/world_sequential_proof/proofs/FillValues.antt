@@ -1,4 +1,5 @@
--- A constant expression of a part has one value, whether it is read from the store as the part's turn comes or along its path through joined globals.
+-- A constant expression of a part has one value, whether it is read from the store in the part's
+-- turn or along its path through joined globals.
 use Rattle.world_sequential_proof.proofs.PartLaws.{Instances}
 use Rattle.base_lists.proofs.Common.{◌≡◌, ◌∙◌, refl, sym, ap, ℕ, zero, suc, ◌+◌, ◌-◌, ◌<◌, List, [], ◌∷◌, length, Some, true, false, inl, inr, arith, add-zero, zero-add, option_and_then, slice_get, right_true, same_Some, slice_get_there, slice_get_within, and_then_is, unwrap_or_false_is, add_next}
 use Rattle.base_lists.proofs.Common.{all_there_length, length-map}
@@ -13,7 +14,7 @@ use Rattle.world_sequential_proof.proofs.Joined.{ExportsThere}
 use Rattle.world_sequential_proof.proofs.OnePart.{EachMatches}
 use Rattle.world_sequential_proof.proofs.FillAddresses.{AtDefined, AtOwn, HasAddress, import_address, imported_at, imported_low}
 
--- the place of an import among those of its kind
+-- The place of an import in the index space of its kind.
 index_place : (k : Space) (is : List Import) (n off : ℕ) (i : Import) → slice_get is n ≡ Some i → space_of_import i.desc ≡ k → slice_get (places (has_kind k) is off) (space_index is n k) ≡ Some (off + n)
 index_place k [] n off i e h = cc
 index_place k (j ∷ js) zero off i e h =
@@ -23,7 +24,7 @@ index_place k (j ∷ js) (suc n) off i e h = rw add_next (grind (arith, index_pl
 
 -- ---- constant expressions ----
 
--- an import of a global that is not mutable
+-- An import of an immutable global.
 pub record ReadsImport (m : Module) (x : ℕ) : Type 0 where
   pub at : ℕ
   pub is_place : slice_get (imports_of Globals m) x ≡ Some at
@@ -33,11 +34,11 @@ pub record ReadsImport (m : Module) (x : ℕ) : Type 0 where
   pub is_global : import.desc ≡ im.Global type
   pub fixed : type.mutable ≡ false
 
--- what it reads is such an import
+-- A constant expression that reads only immutable imported globals.
 abbrev pub Constant : Module → ConstExpr → Type 0
 Constant m e = (x : ℕ) → e ≡ const.Global x → ReadsImport m x
 
--- of the globals below those of part k, those that are not mutable have the values that were allocated
+-- The immutable globals below those of part k have the values that were allocated.
 abbrev pub HoldsFixed : Environment → List Part → (allocated : Store) → ℕ → Store → Type 0
 HoldsFixed env parts allocated k t = (a : ℕ) (g : Global) → a < base env parts Globals k → slice_get allocated.globals a ≡ Some g → g.ty.mutable ≡ false → (h : Global) × (slice_get t.globals a ≡ Some h) × (h.value ≡ g.value)
 
@@ -46,7 +47,7 @@ module _ (env : Environment) (parts : List Part) (insts : List Inst) (are : Inst
     part_there : (k : ℕ) (m : Module) → module_at parts k ≡ Some m → (i : Inst) × (slice_get insts k ≡ Some i)
     part_there k m is_part = (let b = and_then_is (slice_get parts k) (λ part. Some part.«module») m is_part in slice_get_there insts k (omega (arith, slice_get_within parts k b.0 b.1)))
 
-    -- the value of a global that a part defines is its value expression's
+    -- The value of a global that a part defines is that of its initialiser.
     defined_value : (p : ℕ) (m : Module) (j : ℕ) (g : Global) → module_at parts p ≡ Some m → j < length m.globals → slice_get allocated.globals (base env parts Globals p + j) ≡ Some g →
         (e : ConstExpr) × (option_and_then (λ d. Some d.init) (slice_get m.globals j) ≡ Some e) × (value_of env parts insts p e ≡ Some g.value)
     defined_value p m j g is_part low at =
@@ -57,7 +58,7 @@ module _ (env : Environment) (parts : List Part) (insts : List Inst) (are : Inst
         (d.0.init, rw d.1, v.1 ∙ ap (λ g. Some g.value) (same_Some _ _ (v.2 ∙ sym x.1 ∙ at)))
 
     module _ (k : ℕ) (m : Module) (i : Inst) (is_part : module_at parts k ≡ Some m) (is_inst : slice_get insts k ≡ Some i) (t : Store) (holds : HoldsFixed env parts allocated k t) where
-      -- through an import
+      -- An imported global is read with one value.
       read_same : (x : ℕ) → ReadsImport m x → (r : Read) → read_of parts k (const.Global x) ≡ Some r → const_value t.globals i (const.Global x) ≡ value_of env parts insts k (const.Global x)
       read_same x c r reads = from_store ∙ sym (elim (imported_at env parts there earlier Globals s d.thing d.address d.is d.has) [ inl w ↦ defined w | inr w ↦ own w ])
         where
@@ -67,7 +68,7 @@ module _ (env : Environment) (parts : List Part) (insts : List Inst) (are : Inst
           d : HasAddress env parts Globals s i x
           d = import_address env parts k m i (part_inst env parts insts are k m i is_part is_inst) Globals x c.at c.is_place
 
-          -- a global that an import matches
+          -- The global that the import denotes is immutable, because the import matches.
           fixed : (g : Global) × (slice_get allocated.globals d.address ≡ Some g) × (g.ty.mutable ≡ false)
           fixed =
               let import_is : import_at parts s ≡ Some c.import = rw is_part c.is_import in
@@ -104,7 +105,7 @@ module _ (env : Environment) (parts : List Part) (insts : List Inst) (are : Inst
               let here = g.1 ∙ sym (keeps env parts insts {k = Globals} {get = λ s. s.globals} (search (arith, all_there_length, length-map)) 0 parts insts (own_store env) allocated stores_are d.address g.0 g.1) ∙ fixed.1 in
               rw (reads, ← r_is, j.1, a.at, same, here)
 
-      -- other expressions are read where they stand
+      -- Other constant expressions have one value, because they read no import.
       pub value_same : (e : ConstExpr) → Constant m e → (r : Read) → read_of parts k e ≡ Some r → const_value t.globals i e ≡ value_of env parts insts k e
       value_same (const.Global x) c r reads = read_same x (c x refl) r reads
       value_same _ c r reads = rw is_inst

@@ -1,4 +1,5 @@
--- What the sequential run asks of stores whose first parts' segments were copied.
+-- The premises of the sequential run on stores into which the segments of the first parts were
+-- copied.
 use Rattle.base_lists.proofs.Common.{◌≡◌, ◌∙◌, refl, sym, ap, ℕ, zero, suc, ◌+◌, ◌-◌, List, length, Some, false, arith}
 use Rattle.wasm_tree_spec.specs.Prelude.{Module}
 use Rattle.wasm_meaning.specs.Prelude.{Text, Inst, Store, module_at, Environment, ExternalValue, World, own_store, stores_from, joined_stores, all_there, seen_as, segments, StartDependsOnlyOnItsFrames}
@@ -16,7 +17,7 @@ use Rattle.world_sequential_proof.proofs.FillGiven
 
 module _ (env : Environment) (w : World) (insts : List Inst) (allocated : Store) (g : IsGiven env w insts allocated) (stores_are : stores_from env w.parts insts (own_store env) 0 w.parts insts ≡ Some allocated) (well : (segments env w.parts insts allocated).trapped ≡ false)
     (constants : (k : ℕ) (m : Module) → module_at w.parts k ≡ Some m → Constants m) where
-  -- what the rest adds is the same, however the store is laid out
+  -- The store that the remaining parts add is the same in every layout of the allocated store.
   rest_same : (n k : ℕ) → n + k ≡ length w.parts → rest_from env w.parts insts k ≡ g.laid.rest k
   rest_same zero k e =
       let last : k ≡ length w.parts = omega arith in

@@ -1,4 +1,4 @@
--- Where segments are copied, the store refers to nothing that it did not refer to.
+-- A store into which segments are copied refers to nothing to which it did not refer before.
 use Rattle.base_lists.proofs.Common.{◌≡◌, refl, ℕ, List, [], ◌∷◌, Option, Some, None, true, false, cond, option_and_then, slice_get, put_rel, overwrite_rel, get_rel, opt_self}
 use Rattle.wasm_tree_spec.specs.Prelude.{ConstExpr, ElemSeg, ElemMode, DataSeg, DataMode, Module}
 use Rattle.wasm_tree.specs.declared.module.ElemMode.TheVariants as elem
@@ -9,12 +9,12 @@ use Rattle.world_simulation.specs.Prelude.{offset_in}
 use Rattle.world_simulation.proofs.Copied.{then_holds}
 use Rattle.world_sequential_proof.proofs.Closed.{Closed}
 
--- what stands at one place of a list that is related to itself
+-- An element of a list that is related to itself is related to itself.
 pub self_at : {A : Type 0} {P : A → A → Type 0} (xs : List A) (n : ℕ) (x : A) → ListRel P xs xs → slice_get xs n ≡ Some x → P x x
 self_at xs n x r e = opt_self (get_rel r n) e
 
 module _ (R : Pairing) where
-  -- what it filled is closed if the store was
+  -- A closed store stays closed when it is filled.
   abbrev Closes : Store → Filled → Type 0
   Closes s f = Closed R s → Closed R f.store
 
@@ -28,7 +28,7 @@ module _ (R : Pairing) where
   memory_closed s segment a m None c = c
   memory_closed s segment a m (Some bytes) c = record { funcs = c.funcs; tables = c.tables; globals = c.globals; elems = c.elems }
 
-  -- where something is not there, nothing is written
+  -- If a looked-up value is missing, nothing is written.
   found : {A : Type 0} (s : Store) (o : Option A) (f : A → Option Filled) → ((a : A) → o ≡ Some a → Closes s (or_trapped s (f a))) → Closes s (or_trapped s (option_and_then f o))
   found s o f = then_holds (Closes s) s o f (λ c. c)
 

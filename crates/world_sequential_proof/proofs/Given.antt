@@ -1,4 +1,5 @@
--- What is known of a world whose parts are to be instantiated sequentially, and what its next part's turn comes to.
+-- The premises on a world whose parts are instantiated sequentially, and the effect of its next
+-- part's turn.
 use Rattle.base_lists.proofs.Common.{◌≡◌, ◌∙◌, refl, ap, ap₂, ℕ, zero, suc, List, [], ◌∷◌, ◌++◌, map, length, Option, Some, None, true, false, arith, drop, option_and_then, slice_get, same_Some}
 use Rattle.wasm_tree_spec.specs.Prelude.{ConstExpr, Module}
 use Rattle.wasm_meaning.specs.Prelude.{Val, Inst, Func, Store, Opening, type_of_func, Part, module_at, sites, Environment, owned_of, all_of, World, Filled, store_with, const_value, joined_stores, all_there, is_matched, start_in, starts_of, added, added_as, external_value_for, own_segments, Run}
@@ -20,9 +21,9 @@ pub record IsGiven (env : Environment) (w : World) (insts : List Inst) (allocate
   pub own : OwnEntitiesCorrespond
   pub listed : SitesThere w.parts
   pub matched : all_of (is_matched env w.parts allocated) (sites w.parts) ≡ true
-  -- a start takes nothing and gives nothing
+  -- A start takes and gives nothing.
   pub starts : (p x : ℕ) (m : Module) (i : Inst) → module_at w.parts p ≡ Some m → slice_get insts p ≡ Some i → m.start ≡ Some x → (a : ℕ) × (f : Func) × (slice_get i.funcs x ≡ Some a) × (slice_get allocated.funcs a ≡ Some f) × (type_of_func f ≡ nothing_to_nothing)
-  -- what a part adds when its turn has come is what it adds at once
+  -- The entities that a part adds in its turn are those that it adds at once.
   pub store_is : (k : ℕ) (m : Module) (i : Inst) (t : Store) → module_at w.parts k ≡ Some m → slice_get insts k ≡ Some i → Holds env w.parts k allocated t → store_with (const_value t.globals i) m i ≡ Some (laid.adds k)
   pub no_segments : (value : ConstExpr → Option Val) (m : Module) (i : Inst) (s : Store) → HasNoActive m → own_segments value m i s ≡ record { store = s; trapped = false }
 
@@ -45,7 +46,7 @@ made_all _ _ e = absurd (omega arith)
 
 -- ---- the next part's turn ----
 
--- so many parts had their turn
+-- A state of the sequential run after the turns of the first k parts.
 pub record IsTurn (w : World) (insts : List Inst) (k : ℕ) (q : SequentialRun) : Type 0 where
   pub made : q.made ≡ made_upto k w.parts insts
   pub rest : q.rest ≡ drop k w.parts
@@ -54,7 +55,7 @@ pub record IsTurn (w : World) (insts : List Inst) (k : ℕ) (q : SequentialRun) 
 pub turn_stays : {w : World} {insts : List Inst} {k : ℕ} {q : SequentialRun} {u : Run} → IsTurn w insts k q → IsTurn w insts k (record q { run = u })
 turn_stays turn = record { made = turn.made; rest = turn.rest; view = turn.view }
 
--- the starts of the parts whose turn is to come
+-- The starts of the parts whose turn is still to come.
 abbrev pub starts_from : World → List Inst → ℕ → List ℕ
 starts_from w insts k = starts_of (drop k w.parts) (drop k insts)
 
@@ -62,7 +63,7 @@ pub starts_next : (w : World) (insts : List Inst) (k : ℕ) (part : Part) (i : I
 starts_next w insts k part i e h = ap₂ starts_of (past_at w.parts k part e) (past_at insts k i h)
 
 module _ (env : Environment) (w : World) (insts : List Inst) (allocated : Store) (g : IsGiven env w insts allocated) (k : ℕ) (part : Part) (i : Inst) (at_part : slice_get w.parts k ≡ Some part) (at_inst : slice_get insts k ≡ Some i) where
-  -- the part's sequential store, its segments copied
+  -- The sequential store with the part added and its segments copied.
   abbrev pub filled_in : Store → Filled
   filled_in t = own_segments (const_value t.globals i) part.«module» i (joined_stores t (g.laid.adds k))
 

@@ -1,4 +1,5 @@
--- What an import of a part is joined with among the parts before it is what it is joined with among all, where each joined import leads to an earlier part.
+-- An import of a part is joined with the same entity among the parts before it as among all parts,
+-- if each joined import leads to an earlier part.
 use Rattle.world_sequential_proof.proofs.PartLaws.{Instances}
 use Rattle.base_lists.proofs.Common.{◌≡◌, ◌∙◌, refl, ap, ℕ, zero, suc, ◌+◌, ◌<◌, ◌≤◌, List, [], ◌∷◌, length, Option, Some, None, Bool, true, false, cond, arith, add-zero, zero-add, slice_get, and_then_is, same_Some, add_next}
 use Rattle.wasm_tree_spec.specs.Prelude.{Import, ExportDesc, Module, index_of_export, space_of_export}
@@ -9,12 +10,12 @@ use Rattle.wasm_meaning.specs.Sequential.{Made, made_named, exported_by, externa
 use Rattle.world_sequential_proof.proofs.ExternalValues.{goes_to, ends_at, defined_is, imported_is, part_inst}
 use Rattle.world_simulation.specs.Prelude.{IsInst}
 
--- the first parts, each with its instance
+-- The first parts, each with its instance.
 abbrev pub made_upto : ℕ → List Part → List Inst → List Made
 made_upto (suc k) (p ∷ ps) (i ∷ is) = record { part = p; inst = i } ∷ made_upto k ps is
 made_upto _ _ _ = []
 
--- the part of a name among the first k: it is there, or the first of that name comes later
+-- The part of a name: it is among the first k, or the first part of that name comes later.
 data Named (name : Text) (k off : ℕ) (ps : List Part) (is : List Inst) : Type 0 where
   among : {j : ℕ} {part : Part} {inst : Inst} → j < k → first_place (is_named name) ps off ≡ Some (off + j) → slice_get ps j ≡ Some part → slice_get is j ≡ Some inst → made_named (made_upto k ps is) name ≡ Some (record { part = part; inst = inst }) → Named name k off ps is
   later : ((q : ℕ) → first_place (is_named name) ps off ≡ Some q → off + k ≤ q) → made_named (made_upto k ps is) name ≡ None → Named name k off ps is
@@ -37,7 +38,7 @@ named name (suc k) off (p ∷ ps) (i ∷ is) e = go (is_named name p) refl (name
     go false t (later f m) = later (λ q h. let l = f q (rw t at h) in omega arith) (rw t m)
 named name (suc k) off _ _ e = absurd (omega arith)
 
--- what parts export is there
+-- The entities that parts export exist.
 abbrev pub ExportsThere : List Part → Type 0
 ExportsThere parts = (p : ℕ) (m : Module) (field : Text) (d : ExportDesc) → module_at parts p ≡ Some m → export_named m.exports field ≡ Some d → index_of_export d < length (imports_of (space_of_export d) m) + defined_count (space_of_export d) m
 
@@ -58,14 +59,14 @@ module _ (env : Environment) (parts : List Part) (insts : List Inst) (are : Inst
     step_is : import_step parts site ≡ Some (joined_step parts site (joined parts i))
     step_is = rw (is_part, is_import)
 
-    -- not joined: the environment's own
+    -- An import that is joined with nothing denotes an entity of the environment's own.
     pub stays_own : (x : ExternalValue) (o : Option (Made × ExportDesc)) → joined parts i ≡ None → o ≡ None → imported_external_value env parts site ≡ Some x → external_value_or_own (owned_of env) m i o ≡ Some x
     stays_own x o j none h =
         let e = and_then_is (end_of parts site) (external_value_of env parts) x h in
         let end = ends_at parts site e.0 (Outside site) (rw j at step_is) e.1 in
         rw none (rw (← end, is_part, is_import) at e.2)
 
-    -- joined: what the other part's instance says
+    -- A joined import denotes the entity that the other part's instance has.
     pub joins : (x : ExternalValue) (q : ℕ) (part : Part) (inst : Inst) (d : ExportDesc) → joined parts i ≡ Some (record { part = q; what = d }) → slice_get parts q ≡ Some part → slice_get insts q ≡ Some inst →
         imported_external_value env parts site ≡ Some x → address_in inst d ≡ Some x
     joins x q part inst d j at_part at_inst h =
@@ -80,13 +81,13 @@ module _ (env : Environment) (parts : List Part) (insts : List Inst) (are : Inst
     pub thing_same : (x : ExternalValue) → imported_external_value env parts site ≡ Some x → external_value_for (owned_of env) (made p) m i ≡ Some x
     thing_same x h = by_source (named i.«module» p 0 parts insts size)
       where
-        -- the part that is named was there
+        -- The named part is one of the parts before.
         there_before : (q : ℕ) (part : Part) (inst : Inst) → source_of parts i ≡ Some q → slice_get parts q ≡ Some part → slice_get insts q ≡ Some inst → made_named (made p) i.«module» ≡ Some (record { part = part; inst = inst }) → (o : Option ExportDesc) →
             export_named part.«module».exports i.field ≡ o → external_value_for (owned_of env) (made p) m i ≡ Some x
         there_before q part inst s a b c None e = stays_own x (exported_by (made p) i) (rw (s, a, e)) (rw (c, e)) h
         there_before q part inst s a b c (Some d) e = rw (c, e) (joins x q part inst d (rw (s, a, e)) a b h)
 
-        -- it comes later, or there is none
+        -- The named part comes later, or there is none.
         not_before : ((q : ℕ) → source_of parts i ≡ Some q → p ≤ q) → made_named (made p) i.«module» ≡ None → (o : Option Entity) → joined parts i ≡ o → external_value_for (owned_of env) (made p) m i ≡ Some x
         not_before l c None j = stays_own x (exported_by (made p) i) j (rw c) h
         not_before l c (Some e) j =

@@ -1,4 +1,4 @@
--- While a start is made, the sequential run and the run at once make the same steps.
+-- The sequential run and the run at once take the same steps while a start runs.
 use Rattle.base_lists.proofs.Common.{◌≡◌, ◌∙◌, refl, ap, subst, ℕ, ◌<◌, ◌≤◌, List, [], ◌∷◌, ◌++◌, length, Option, Some, None, arith, slice_get, length_rel}
 use Rattle.wasm_tree_spec.specs.Prelude.{Space, Functions, Tables, Memories, Globals, ElementSegments, DataSegments, FuncType}
 use Rattle.wasm_meaning.specs.Prelude.{Text, Func, Code, Own, Store, Entry, Running, Opening, Waiting, type_of_func, zeros, Part, Environment, ExternalValue, owned_of, base, Event, Asked, Phase, Pending, Closed, Run, Out, tick, IsBottom, GivesNothing, a_frame, a_call, over, AgreeOnFrames, ended}
@@ -17,7 +17,7 @@ use Rattle.world_sequential_proof.proofs.ExtensionLaws.{ExtensionLaws}
 abbrev pub nothing_to_nothing : FuncType
 nothing_to_nothing = record { params = []; results = [] }
 
--- what stands on the stack when the function was called with nothing, and what is seen then
+-- The stack entry, and the event, of a call of a function without arguments.
 abbrev pub entry_of : Func → Entry
 entry_of (Code t i ls c) = Running (record { inst = i; locals = zeros ls; results = t.results; levels = record { values = []; code = c; gives = length t.results; takes = length t.results; back = [] } ∷ [] })
 entry_of (Own p t) = Waiting t.results
@@ -36,7 +36,7 @@ pub opened_gives_nothing : (env : Environment) (parts : List Part) (p : ℕ) (f 
 opened_gives_nothing env parts p f ty own_func = rw ty a_call
 opened_gives_nothing env parts p f ty (code k) = a_frame (ap (λ t. t.results) ty)
 
--- ---- two runs over one ground ----
+-- ---- two runs, compared above a common bottom of the stack ----
 
 abbrev pub over_one : Run → List Entry → Run
 over_one r es = record r { entries = es ++ Opening [] ∷ []; phase = Pending [] }
@@ -56,7 +56,8 @@ module _ (below : StartDependsOnlyOnItsFrames) (extend : ExtensionLaws) (ticks :
   abbrev RunsRelated : Run → Run → Type 0
   RunsRelated = RunRel R (EntryByEntry R) (EntryByEntry R)
 
-  -- r is the run at once, u the sequential run; so many entries stand above where the start began
+  -- The run at once, r, and the sequential run, u, correspond during a start, which has these
+  -- entries on the stack of each.
   pub record Abreast (es fs : List Entry) (r u : Run) : Type 0 where
     pub related : RunsRelated (over_one u fs) (over_one r es)
     pub beside : Beside env parts p allocated u.store r.store
@@ -64,7 +65,7 @@ module _ (below : StartDependsOnlyOnItsFrames) (extend : ExtensionLaws) (ticks :
     pub first_owned : r.owned ≡ owned_of env
     pub second_owned : u.owned ≡ owned_of env
 
-  -- what a step of both comes to
+  -- The outcome of a step of both runs: the start continues, is done, or the run has stopped.
   pub data Stepped (cs : List Entry) (view v : List (Text × ExternalValue)) : Out → Out → Type 0 where
     on : {event : Option Event} {r u : Run} (es fs : List Entry) → GivesNothing es → GivesNothing fs → Abreast es fs r u → r.entries ≡ es ++ cs → r.phase ≡ Pending view → u.entries ≡ fs ++ Opening [] ∷ [] → u.phase ≡ Pending v → Stepped cs view v (r, event) (u, event)
     done : {r u : Run} → Abreast [] [] r u → r.entries ≡ cs → r.phase ≡ Pending view → u.entries ≡ Opening [] ∷ [] → u.phase ≡ Pending v → Stepped cs view v (r, None) (u, None)
@@ -123,7 +124,7 @@ module _ (below : StartDependsOnlyOnItsFrames) (extend : ExtensionLaws) (ticks :
         (ticks (is_reached env parts p) (one_to_one env parts p) (over_one u fs) (over_one r es) h.related) (others (is_reached env parts p) (one_to_one env parts p) (over_one u fs) (over_one r es) h.related tt).0
         (extend.step r (rw b tt)) (extend.step u (rw d tt))
 
-  -- both open a start
+  -- Both runs call a start.
   module _ (a : ℕ) (xs : List ℕ) (f : Func) (ty : type_of_func f ≡ nothing_to_nothing) (r u : Run) (h : Abreast [] [] r u) (there : slice_get u.store.funcs a ≡ Some f) (low : a < base env parts Functions p) (view v : List (Text × ExternalValue)) where
     sound : Sound env parts p f
     sound = h.beside.sound a f there

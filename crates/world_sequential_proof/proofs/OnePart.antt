@@ -1,4 +1,5 @@
--- When a part's turn comes its imports are there and match, and its instance is the one that it has at once.
+-- The instantiation of a part in its turn: its imports exist and match, and its instance is the one
+-- that it has at once.
 use Rattle.world_sequential_proof.proofs.PartLaws.{Instances}
 use Rattle.base_lists.proofs.Common.{◌≡◌, refl, ℕ, suc, ◌+◌, ◌<◌, List, [], ◌∷◌, length, Option, Some, true, arith, slice_get, and_parts, and_then_is, same_Some, add-zero, zero-add, unwrap_or_false_is, list_all_each, add_next}
 use Rattle.wasm_tree_spec.specs.Prelude.{Space, Functions, Tables, Memories, Globals, DataSegments, ElementSegments, Import, ImportDesc, Module, same_ref}
@@ -11,7 +12,7 @@ use Rattle.world_sequential_proof.proofs.ExternalValues.{space_is, each_from, ga
 use Rattle.world_sequential_proof.proofs.Joined.{made_upto, thing_same, inst_of_part}
 use Rattle.world_sequential_proof.proofs.EarlierParts.{thing_low}
 
--- as many as the environment and the first parts have
+-- A store has as many entities as the environment and the first parts.
 pub record Sized (env : Environment) (parts : List Part) (p : ℕ) (t : Store) : Type 0 where
   pub funcs : length t.funcs ≡ base env parts Functions p
   pub tables : length t.tables ≡ base env parts Tables p
@@ -20,7 +21,7 @@ pub record Sized (env : Environment) (parts : List Part) (p : ℕ) (t : Store) :
   pub elems : length t.elems ≡ defined_before ElementSegments parts p
   pub datas : length t.datas ≡ defined_before DataSegments parts p
 
--- what it holds extends what was allocated
+-- A store whose entities extend those that were allocated for the first parts.
 pub record Holds (env : Environment) (parts : List Part) (p : ℕ) (s t : Store) : Type 0 where
   pub funcs : (a : ℕ) → a < base env parts Functions p → slice_get t.funcs a ≡ slice_get s.funcs a
   pub tables : (a : ℕ) (x : Table) → a < base env parts Tables p → slice_get s.tables a ≡ Some x → (y : Table) × (slice_get t.tables a ≡ Some y) × TableExtends x y
@@ -51,18 +52,18 @@ module _ (env : Environment) (parts : List Part) (p : ℕ) (s t : Store) (holds 
 
 -- ---- all sites ----
 
--- the sites are the imports
+-- Each import is at a site.
 abbrev pub SitesThere : List Part → Type 0
 SitesThere parts = (s : Site) (i : Import) → import_at parts s ≡ Some i → (n : ℕ) × (slice_get (sites parts) n ≡ Some s)
 
--- each import matches
+-- Each import matches.
 abbrev pub EachMatches : Environment → List Part → (allocated : Store) → Type 0
 EachMatches env parts allocated = (s : Site) (i : Import) → import_at parts s ≡ Some i → is_matched env parts allocated s ≡ true
 
 pub each_matches : (env : Environment) (parts : List Part) (allocated : Store) → SitesThere parts → all_of (is_matched env parts allocated) (sites parts) ≡ true → EachMatches env parts allocated
 each_matches env parts allocated listed matched s i h = let n = listed s i h in list_all_each (is_matched env parts allocated) (sites parts) matched n.0 s n.1
 
--- an import matches what it denotes
+-- Each import matches the external value that it denotes.
 pub matches : (env : Environment) (parts : List Part) (allocated : Store) → SitesThere parts → all_of (is_matched env parts allocated) (sites parts) ≡ true →
     (p n : ℕ) (m : Module) (i : Import) (x : ExternalValue) → module_at parts p ≡ Some m → slice_get m.imports n ≡ Some i → imported_external_value env parts (record { part = p; import = n }) ≡ Some x → is_match allocated m i.desc x ≡ Some true
 matches env parts allocated listed matched p n m i x is_part here h =
@@ -74,7 +75,7 @@ module _ (env : Environment) (parts : List Part) (insts : List Inst) (are : Inst
     abbrev imported : ℕ → Option ExternalValue
     imported n = imported_external_value env parts (record { part = p; import = n })
 
-    -- from a place of the imports on
+    -- The imports from a place on denote these external values and match them.
     things_for : (is : List Import) (n : ℕ) (xs : List ExternalValue) → ((j : ℕ) (i : Import) → slice_get is j ≡ Some i → slice_get m.imports (n + j) ≡ Some i) → each_from imported is n ≡ Some xs →
         (all_there (external_value_for (owned_of env) (made_upto p parts insts) m) is ≡ Some xs) × (all_match t m is xs ≡ true)
     things_for [] n xs at h = rw (← same_Some _ _ h) (refl, refl)

@@ -1,4 +1,5 @@
--- After the starts: a closed run stays closed, and a view that opens shows what the parts have.
+-- The run after the starts: a closed run stays closed, and a view that opens shows entities that
+-- the parts reach.
 use Rattle.base_lists.proofs.Common.{◌≡◌, ◌∙◌, refl, sym, ℕ, ◌<◌, List, [], ◌∷◌, Option, Some, None, true, false, cond, slice_get, nat_eq, and_then_is, same_Some, all_there_back, with_there, either_all}
 use Rattle.wasm_tree_spec.specs.Prelude.{Functions, Tables, Memories, Globals, Space, space_of_export, index_of_export}
 use Rattle.wasm_meaning.specs.Prelude.{external_value_at, overwrite, received, received_ref, place_at, byte_of, Text, Inst, Store, Entry, Phase, Event, Makes, memory_may_grow, table_may_grow, Part, Entity, Environment, ExternalValue, FuncAt, TableAt, MemoryAt, GlobalAt, Shown, base, all_there}
@@ -11,7 +12,7 @@ use Rattle.world_sequential_proof.proofs.Reached.{reaching, reached_at}
 
 -- ---- a closed run ----
 
--- the stack and the phase are these still
+-- The stack and the phase are unchanged by a step.
 pub record Idle (es : List Entry) (p : Phase) (o : Out) : Type 0 where
   pub entries : o.0.entries ≡ es
   pub phase : o.0.phase ≡ p
@@ -72,7 +73,7 @@ closed_stays r e f = rw (e, f) (rw (e, f) at (move_idle r r.moves))
 -- ---- the view ----
 
 module _ (env : Environment) (parts : List Part) (p : ℕ) where
-  -- what has an address below the count is related to itself
+  -- An external value with an address below the count is related to itself.
   reached_self : (k : Space) (a : ℕ) (x : ExternalValue) → external_value_at k a ≡ Some x → a < base env parts k p → ExternalValueRel (reaching env parts p) x x
   reached_self Functions a x e l = rw (← same_Some _ _ e) (a_func (reached_at env parts p Functions a l))
   reached_self Tables a x e l = rw (← same_Some _ _ e) (a_table (reached_at env parts p Tables a l))
@@ -80,7 +81,7 @@ module _ (env : Environment) (parts : List Part) (p : ℕ) where
   reached_self Globals a x e l = rw (← same_Some _ _ e) (a_global (reached_at env parts p Globals a l))
   reached_self _ a x e l = cc
 
-  -- what the embedder may use is what the parts reach
+  -- The external values in the view are related to themselves, because the parts reach them.
   pub view_self : (insts : List Inst) → ((q : ℕ) (i : Inst) → slice_get insts q ≡ Some i → (k : Space) (n a : ℕ) → slice_get (space_in i k) n ≡ Some a → a < base env parts k p) →
       (vs : List (Text × Entity)) (view : List (Text × ExternalValue)) → all_there (seen_as insts) vs ≡ Some view → ListRel (KeyRel (reaching env parts p)) view view
   view_self insts low vs view h = self_by view (λ n y e.

@@ -43,7 +43,8 @@ shares_own env parts p = record {
   globals = λ a l. reached_at env parts p Globals a (omega arith);
 }
 
--- none of the parts: what is the environment's has an address below its count
+-- An entity of the environment's own has an address below the count of the environment and the
+-- first parts.
 pub own_low : OwnEntitiesCorrespond → (env : Environment) (parts : List Part) (p : ℕ) (key : OwnKey) (x : ExternalValue) → owned_at (owned_of env) key ≡ Some x → (k : Space) (a : ℕ) → address_of k x ≡ Some a → a < base env parts k p
 own_low law env parts p key x h k a e =
     let shares = shares_own env parts p in

@@ -1,4 +1,5 @@
--- The stages of a run whose parts are instantiated sequentially beside the run of the world at once: parts are added, a start is made, the view opens.
+-- The stages of the sequential run and of the run at once: parts are added, a start runs, the view
+-- opens.
 use Rattle.base_lists.proofs.Common.{◌≡◌, ◌∙◌, refl, sym, ap, ap₂, ℕ, zero, suc, ◌+◌, ◌<◌, ◌≤◌, List, [], ◌∷◌, ◌++◌, length, Option, Some, None, ◌⊎◌, inl, inr, arith, drop, slice_get, cases_lt, slice_get_there, slice_get_within}
 use Rattle.wasm_tree_spec.specs.Prelude.{Functions, Module, Space}
 use Rattle.wasm_meaning.specs.Prelude.{const_value, Linked, Text, Inst, Func, Store, Entry, Opening, type_of_func, Part, module_at, Environment, ExternalValue, World, base, all_there, joined_stores, start_in, one_place, seen_as, Pending, Opened, Closed, Run, Out, tick, GivesNothing, a_frame, a_call}
@@ -17,7 +18,7 @@ use Rattle.world_sequential_proof.proofs.Given.{IsGiven, IsTurn, made_all, start
 use Rattle.world_sequential_proof.proofs.Waiting.{holds_of, abreast_next, within}
 use Rattle.world_sequential_proof.proofs.Over.{closed_stays, view_self}
 
--- the next part's turn comes only where no start is left to be made
+-- The next part has its turn only if no start is left to be run.
 turn_runs : (q : SequentialRun) → (q.run.entries ≡ Opening [] ∷ [] → ⊥) → tick_sequential q ≡ with_run q (tick q.run)
 turn_runs q n = go q.rest q.run.entries n
   where
@@ -39,7 +40,8 @@ module _ (env : Environment) (w : World) (insts : List Inst) (allocated : Store)
   abbrev Same : ℕ → Run → Run → Type 0
   Same k u r = RunRel (reaching env w.parts k) (EntryByEntry (reaching env w.parts k)) (EntryByEntry (reaching env w.parts k)) u r
 
-  -- So many parts are there. These entries of a start that is being made stand on the stack, and ys is the start of the last part where it still has to be made.
+  -- A state in which k parts are added. The entries es and fs of a running start are on the stacks,
+  -- and ys is the start of the last part if it has still to be run.
   pub record Stands (k : ℕ) (es fs : List Entry) (ys : List ℕ) (r : Run) (q : SequentialRun) : Type 0 where
     pub abreast : Abreast below extend ticks others env w.parts allocated k es fs r q.run
     pub first : r.entries ≡ es ++ Opening (ys ++ starts_from w insts k) ∷ []
@@ -53,14 +55,15 @@ module _ (env : Environment) (w : World) (insts : List Inst) (allocated : Store)
   abbrev pub Waits : ℕ → List ℕ → Run → SequentialRun → Type 0
   Waits k ys r q = Stands k [] [] ys r q
 
-  -- a start that is to be made
+  -- A start that is to be run.
   pub record IsStart (k a : ℕ) (q : SequentialRun) : Type 0 where
     pub func : Func
     pub there : slice_get q.run.store.funcs a ≡ Some func
     pub type : type_of_func func ≡ nothing_to_nothing
     pub low : a < base env w.parts Functions k
 
-  -- The second has at most d parts to add in steps of its own.
+  -- A stage of both runs, in which the sequential run has at most d parts left to add in steps of
+  -- its own.
   pub data Stage (d : ℕ) (r : Run) (q : SequentialRun) : Type 0 where
     waits : {k : ℕ} → length w.parts ≤ k + d → Waits k [] r q → Stage d r q
     opens : {k a : ℕ} → length w.parts ≤ k + d → IsStart k a q → Waits k (a ∷ []) r q → Stage d r q
@@ -71,13 +74,13 @@ module _ (env : Environment) (w : World) (insts : List Inst) (allocated : Store)
   abbrev pub LeadsToStage : ℕ → Run → SequentialRun → Type 0
   LeadsToStage d r q = StepsTogether tick tick_sequential (λ d e r q. Stage d r q) d 0 r q
 
-  -- a step of both, where the turn is the run's
+  -- A step of both runs, in which the sequential run adds no part.
   in_step : (d : ℕ) (r : Run) (q : SequentialRun) → tick_sequential q ≡ with_run q (tick q.run) → (tick r).1 ≡ (tick q.run).1 → Stage d (tick r).0 (record q { run = (tick q.run).0 }) → LeadsToStage d r q
   in_step d r q e same stage = both (rw e same) (rw e stage)
 
   -- ---- the turn of the next part ----
 
-  -- what comes of a part that was added, by its start
+  -- The stage after a part is added: its start is to be run, or there is none.
   pub added_stage : (d k : ℕ) (part : Part) (i : Inst) (r : Run) (q : SequentialRun) → slice_get w.parts k ≡ Some part → slice_get insts k ≡ Some i → length w.parts ≤ suc k + d → q.run.entries ≡ Opening (start_in i part.«module».start) ∷ [] →
       ((ys : List ℕ) → start_in i part.«module».start ≡ ys → Waits (suc k) ys r q) → Stage d r q
   added_stage d k part i r q at_part at_inst l e h = go part.«module».start refl
@@ -92,7 +95,7 @@ module _ (env : Environment) (w : World) (insts : List Inst) (allocated : Store)
           opens l (record { func = s.1; there = now.abreast.beside.same_funcs s.0 low ∙ s.3; type = s.4; low = low }) now
 
   module _ (k d : ℕ) (r : Run) (q : SequentialRun) (h : Waits k [] r q) where
-    -- the next part is added, in a step of the second alone
+    -- The next part is added in a step of the sequential run alone.
     add_part : (part : Part) (i : Inst) → slice_get w.parts k ≡ Some part → slice_get insts k ≡ Some i → length w.parts ≤ k + suc d → LeadsToStage (suc d) r q
     add_part part i at_part at_inst l =
         let t = q.run.store in
@@ -138,7 +141,7 @@ module _ (env : Environment) (w : World) (insts : List Inst) (allocated : Store)
 
   -- ---- a start ----
 
-  -- the stage after a step of both within a start
+  -- The stage after a step of both runs within a start.
   stepped : {d k : ℕ} {es fs : List Entry} {ys : List ℕ} {r : Run} {q : SequentialRun} {o p : Out} → length w.parts ≤ k + d → Stands k es fs ys r q →
       Stepped below extend ticks others env w.parts allocated k (Opening (starts_from w insts k) ∷ []) view (view_over (made_upto k w.parts insts) w.view) o p → (o.1 ≡ p.1) × Stage d o.0 (record q { run = p.0 })
   stepped l h (on es fs x y a b c e f) = (refl, makes l x y (record { abreast = a; first = b; phase = c; second_entries = e; second_phase = f; turn = turn_stays h.turn; quiet = h.quiet; most = h.most }))

@@ -1,4 +1,4 @@
--- The start of a valid part is a function that takes nothing and gives nothing.
+-- The start of a valid part is a function that takes and gives nothing.
 use Rattle.world_sequential_proof.proofs.PartLaws.{Instances}
 use Rattle.base_lists.proofs.Common.{◌≡◌, ◌∙◌, sym, ap, ap₂, ℕ, suc, ◌+◌, ◌≤◌, List, map, length, Option, Some, true, inl, inr, arith, slice_get, option_and_then, slice_get_within, same_Some, map_from, append_from, slice_get_there, append_at_left, append_right, place_of, places_many, and_then_is}
 use Rattle.base_lists.proofs.Common.{all_there_at, all_there_length, numbers_at, option_map_is, is_some}
@@ -14,11 +14,11 @@ use Rattle.world_sequential_proof.proofs.OnePart.{SitesThere, matches}
 use Rattle.world_sequential_proof.proofs.Beside.{Laid, at_allocated_funcs}
 use Rattle.world_simulation.specs.Prelude.{AddsWith, IsInst}
 
--- an import is of a function where its description is
+-- An import has the description of a function exactly if it is of that kind.
 imports_of_functions : (i : Import) → is_some (func_of i.desc) ≡ has_kind Functions i
 imports_of_functions i = grind arith
 
--- a function with its type
+-- The function of an index of an instance in the store, with its type.
 pub record HasFunc (i : Inst) (allocated : Store) (x : ℕ) (t : FuncType) : Type 0 where
   pub address : ℕ
   pub func : Func
@@ -83,7 +83,7 @@ module _ (same_types : (s t : FuncType) → same_func_type s t ≡ true → s �
           type = rw (← same_Some _ _ made.2) (same_Some _ _ (sym made.1 ∙ ap₂ slice_get is_inst.types back.2 ∙ type));
         }
 
-    -- a function of a part's space stands in the store, with its type
+    -- A function in the index space of a part is in the store, with its type.
     pub func_there : type_of_func m x ≡ Some t → HasFunc i allocated x t
     func_there h =
         let ty = and_then_is (slice_get (funcs_of m) x) (slice_get m.types) t h in

@@ -1,4 +1,5 @@
--- Between starts: a part's turn comes, and the stores stay beside one another.
+-- The turn of a part between two starts: the sequential store still corresponds to the store of all
+-- parts at once.
 use Rattle.base_lists.proofs.Common.{◌≡◌, ◌∙◌, refl, sym, ap, subst, ℕ, suc, ◌≤◌, List, [], length, Some, arith, drop, slice_get, slice_get_within, true, Option, each_rel, length_rel, there, left_there, right_there, opt_both, number_is}
 use Rattle.wasm_tree_spec.specs.Prelude.{Space, Functions, Tables, Memories, Globals, DataSegments, ElementSegments}
 use Rattle.wasm_meaning.specs.Prelude.{RefVal, FuncRef, Val, Ref, Inst, Func, Global, Store, Part, module_at, Environment, ExternalValue, World, joined_stores, defined_before, Run, StartDependsOnlyOnItsFrames, SequentialRun, goes_on}
@@ -14,7 +15,7 @@ use Rattle.world_sequential_proof.proofs.ExtensionLaws.{ExtensionLaws}
 use Rattle.world_sequential_proof.proofs.Making.{Abreast}
 use Rattle.world_sequential_proof.proofs.Given.{IsGiven}
 
--- ---- what is related by itself is the same ----
+-- ---- related entities of the two stores ----
 
 module _ (env : Environment) (parts : List Part) (p : ℕ) where
   ref_same : {r s : RefVal} → RefRel (reaching env parts p) r s → r ≡ s
@@ -29,7 +30,7 @@ module _ (env : Environment) (parts : List Part) (p : ℕ) where
   val_self : {v w : Val} → ValRel (reaching env parts p) v w → ValRel (reaching env parts p) v v
   val_self {v = v} h = subst (λ w. ValRel (reaching env parts p) v w) (sym (val_same h)) h
 
-  -- what the sequential store holds extends what was allocated
+  -- The sequential store extends what was allocated for the first parts.
   pub holds_of : (allocated t s : Store) → Beside env parts p allocated t s → Extends allocated s → Holds env parts p allocated t
   holds_of allocated t s h e = record {
     funcs = h.same_funcs;
@@ -38,7 +39,8 @@ module _ (env : Environment) (parts : List Part) (p : ℕ) where
     globals = λ a x l at_x. let y = e.globals a x at_x in found (h.related.globals (reached_at env parts p Globals a l)) y.1 (λ z q. record { type = q.type ∙ y.2.type; fixed = λ f. val_same q.value ∙ y.2.fixed f });
   }
     where
-      -- what is related to what stands there, with what follows of it
+      -- An element related to an element of the second list exists, and has each property that
+      -- follows from the relation.
       found : {A : Type 0} {P : A → A → Type 0} {E : A → Type 0} {o q : Option A} {y : A} → BothRel P o q → q ≡ Some y → ((z : A) → P z y → E z) → (z : A) × (o ≡ Some z) × E z
       found r e h = let z = left_there (there r) e in (z.0, z.1, h z.0 (opt_both (there r) z.1 e))
 
@@ -58,21 +60,22 @@ module _ (env : Environment) (w : World) (insts : List Inst) (allocated : Store)
   pub within : suc k ≤ length w.parts
   within = omega (arith, slice_get_within w.parts k part at_part)
 
-  -- what the first parts reach is reached with the part
+  -- The addresses that the first parts reach are reached by them and the next part.
   pub still_reached : (kind : Space) (a b : ℕ) → is_reached env w.parts k kind a b ≡ true → is_reached env w.parts (suc k) kind a b ≡ true
   still_reached = more itself env w.parts insts allocated g.laid k part.«module» is_part within
 
   pub more_values : {v u : Val} → ValRel (reaching env w.parts k) v u → ValRel (reaching env w.parts (suc k)) v u
   more_values = val_more (reaching env w.parts k) (reaching env w.parts (suc k)) still_reached
 
-  -- what the part adds refers to nothing beyond, where values that stand in globals do not
+  -- The entities that the part adds reach no further than the part, if the values of globals do
+  -- not.
   pub adds_within : (t : Store) → Holds env w.parts k allocated t → ((a : ℕ) (x : Global) → slice_get t.globals a ≡ Some x → ValRel (reaching env w.parts (suc k)) x.value x.value) →
       Closed (reaching env w.parts (suc k)) (g.laid.adds k) × ((n : ℕ) (f : Func) → slice_get (g.laid.adds k).funcs n ≡ Some f → Sound env w.parts (suc k) f)
   adds_within t holds values =
       let is = g.store_is k part.«module» i t is_part at_inst holds in
       (added_closed itself env w.parts (suc k) part.«module» i t.globals reaches values (g.laid.adds k) is, added_sound itself env w.parts (suc k) part.«module» i t.globals reaches values (g.laid.adds k) is)
 
-  -- ---- where the part has no active segment ----
+  -- ---- a part without an active segment ----
 
   key_more : {K : Type 0} (x y : K × ExternalValue) → KeyRel (reaching env w.parts k) x y → KeyRel (reaching env w.parts (suc k)) x y
   key_more x y h = record { key = h.key; thing = thing_more h.thing }
@@ -84,7 +87,7 @@ module _ (env : Environment) (w : World) (insts : List Inst) (allocated : Store)
       thing_more (a_global h) = a_global (still_reached Globals _ _ h)
 
   module _ (below : StartDependsOnlyOnItsFrames) (extend : ExtensionLaws) (ticks : RelatedTicksAgree) (others : OthersStay) where
-    -- the two runs are abreast again, with the part
+    -- The two runs still correspond after the part is added.
     pub abreast_next : (r : Run) (q : SequentialRun) → Abreast below extend ticks others env w.parts allocated k [] [] r q.run → Abreast below extend ticks others env w.parts allocated (suc k) [] [] r (goes_on q part (drop (suc k) w.parts) i (joined_stores q.run.store (g.laid.adds k))).run
     abreast_next r q h =
         let t = q.run.store in

@@ -1,4 +1,4 @@
--- The whole run: parts that are instantiated sequentially show what the world shows at once.
+-- The traces of the whole run: sequential instantiation has the events of instantiation at once.
 use Rattle.base_lists.proofs.Common.{◌≡◌, ◌∙◌, refl, sym, ap, ap₂, ℕ, zero, suc, ◌+◌, ◌*◌, ◌<◌, ◌≤◌, List, [], ◌∷◌, ◌++◌, length, Option, Some, None, false, ◌⊎◌, inl, inr, arith, drop, slice_get, unwrap_or, cases_lt, slice_get_there, slice_get_within, and_then_is}
 use Rattle.wasm_tree_spec.specs.Prelude.{Module}
 use Rattle.wasm_meaning.specs.Prelude.{Text, Inst, Store, Opening, Part, Entity, module_at, Environment, ExternalValue, owned_of, World, Begun, own_store, begun, all_there, start_in, starts_of, seen_as, segments, Pending, Move, Run, IsPrefix, fresh_run, tick, events_of, StartDependsOnlyOnItsFrames}
@@ -16,7 +16,6 @@ use Rattle.world_sequential_proof.proofs.Stages.{Waits, Stage, added_stage}
 use Rattle.world_sequential_proof.proofs.Stages as stages
 use Rattle.world_sequential_proof.proofs.Begins.{FillLaws, Fills, Advances, advances, beside_after, own_related, own_sound}
 
--- a view over no parts is empty
 no_view : (vs : List (Text × Entity)) → unwrap_or (all_there (seen_as []) vs) [] ≡ []
 no_view [] = refl
 no_view (v ∷ vs) = refl
@@ -43,7 +42,7 @@ module _ (env : Environment) (w : World) (insts : List Inst) (allocated : Store)
     fills : (k : ℕ) → length w.parts ≤ k + d → Filling k r q → Early d r q
     later_on : TheStage d r q → Early d r q
 
-  -- after the turn of a part before which there was no start
+  -- The stage after the turn of a part before which there was no start.
   module _ (k d : ℕ) (part : Part) (i : Inst) (r : Run) (q : SequentialRun) (at_part : slice_get w.parts k ≡ Some part) (at_inst : slice_get insts k ≡ Some i) (h : Filling k r q) (a : Advances env w insts allocated g itself below extend ticks others view view_is IsFilled laws moves k part i q)
       (l : length w.parts ≤ suc k + d) where
     abbrev next_state : SequentialRun
@@ -61,7 +60,7 @@ module _ (env : Environment) (w : World) (insts : List Inst) (allocated : Store)
     starts_are : starts_of w.parts insts ≡ start_in i part.«module».start ++ starts_from w insts (suc k)
     starts_are = sym h.none_before ∙ starts_next w insts k part i at_part at_inst
 
-    -- where no part after it has an active segment all segments were copied
+    -- All segments are copied, if no part after this one has an active segment.
     waits_now : ((p : ℕ) (m : Module) → suc k ≤ p → module_at w.parts p ≡ Some m → HasNoActive m) → (ys : List ℕ) → start_in i part.«module».start ≡ ys → Waits env w insts allocated g itself below extend ticks others view view_is (suc k) ys r next_state
     waits_now quiet ys e =
         let whole = laws.filled_all (suc k) a.next_store low a.filled quiet in
@@ -95,7 +94,7 @@ module _ (env : Environment) (w : World) (insts : List Inst) (allocated : Store)
     stage_now : ((p : ℕ) (m : Module) → suc k ≤ p → module_at w.parts p ≡ Some m → HasNoActive m) → Early d r next_state
     stage_now quiet = later_on (added_stage env w insts allocated g itself below extend ticks others view view_is d k part i r next_state at_part at_inst (omega (arith, l)) refl (waits_now quiet))
 
-    -- it has no start, and is not the last
+    -- A part that has no start and is not the last leads to the turn of the next part.
     fills_on : start_in i part.«module».start ≡ [] → suc k < length w.parts → Early d r next_state
     fills_on none less = fills (suc k) (omega (arith, l)) (record {
       filled = a.filled;
@@ -163,7 +162,7 @@ module _ (env : Environment) (w : World) (insts : List Inst) (allocated : Store)
       on (both p i) = both p (later_on i)
       on (second p i) = second p (later_on i)
 
-  -- ---- what is seen ----
+  -- ---- traces ----
 
   pub seen_the_same : 0 < length w.parts → (n : ℕ) → IsPrefix (events_of tick (fresh_run env (Some instance) moves) n) (events_sequential w env moves (n + 4 * length w.parts)) × IsPrefix (events_sequential w env moves n) (events_of tick (fresh_run env (Some instance) moves) (n + 4 * length w.parts))
   seen_the_same some n =

@@ -1,4 +1,4 @@
--- What a part adds to the store stands there at the addresses of the part.
+-- The entities that a part adds to the store are there at the addresses of the part.
 use Rattle.base_lists.proofs.Common.{◌≡◌, ℕ, zero, suc, ◌+◌, List, ◌∷◌, length, Option, Some, arith, add-zero, slice_get, same_Some, length-append, length-map, append_at_left, append_right, and_then_is, is_some_there, all_there_length, all_there_from, add_next}
 use native.Mathlib.Nat.{add_assoc}
 use Rattle.wasm_tree_spec.specs.Prelude.{Space, Functions, Tables, Memories, Globals, ElementSegments, DataSegments, ConstExpr, GlobalDef, ElemSeg, Module}
@@ -11,7 +11,7 @@ use Rattle.world_simulation.specs.Allocated.{Adds, AddsWith, Allocates}
 pub adds_with : (value : ConstExpr → Option Val) (m : Module) (i : Inst) (t : Store) → store_with value m i ≡ Some t → AddsWith value m i t
 adds_with value m i t h = search arith
 
--- how many entities a part adds
+-- A part adds as many entities of each kind as it defines.
 ruleset counts = (arith, all_there_length, length-map)
 
 pub funcs_allocate : Allocates Functions (λ s. s.funcs)
@@ -45,7 +45,7 @@ module _ (env : Environment) (all : List Part) (insts : List Inst) where
         keeps (suc p) rest is _ z t.2 n x (rw allocates.joins (append_at_left _ _ n x e))
     keeps p _ _ s z h n x e = cc
 
-    -- what a part adds stands in the store from an address on
+    -- The store has what a part adds, from an address on.
     pub record Stands (z : Store) (from p : ℕ) (m : Module) (i : Inst) : Type 0 where
       pub added : Store
       pub adds : Adds env all insts p m i added
@@ -66,7 +66,7 @@ module _ (env : Environment) (all : List Part) (insts : List Inst) where
 
   -- ---- where a part adds something ----
 
-  -- it does where what it defines is there
+  -- A part is allocated if each function, global and element segment that it defines can be.
   pub part_there : (p : ℕ) (m : Module) (i : Inst) → ((n : ℕ) (f : tree.Func) → slice_get m.funcs n ≡ Some f → (x : Func) × (new_func i f ≡ Some x)) →
       ((n : ℕ) (g : GlobalDef) → slice_get m.globals n ≡ Some g → (x : Global) × (new_global env all insts p g ≡ Some x)) →
       ((n : ℕ) (e : ElemSeg) → slice_get m.elems n ≡ Some e → (x : Elem) × (elem_of env all insts p e ≡ Some x)) → (t : Store) × (part_store env all insts p m i ≡ Some t)

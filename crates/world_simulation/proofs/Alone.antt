@@ -1,4 +1,5 @@
--- A module alone: its imports all stay, so what they denote and what is read through them is a matter of its types and imports.
+-- A module alone: all its imports stay, so that its types and imports determine what the imports
+-- denote and what is read through them.
 use Rattle.base_lists.proofs.Common.{◌≡◌, arith, ℕ, ◌++◌, Option, Some, add-zero, option_and_then, slice_get}
 use Rattle.wasm_tree_spec.specs.Prelude.{Space, ImportDesc, ConstExpr, Module}
 use Rattle.wasm_meaning.specs.Prelude.{Pair, Outside, end_of, read_of, Environment, own_key_of, imported_external_value, numbers, own_count, defined_count, space}

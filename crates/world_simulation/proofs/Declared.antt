@@ -1,4 +1,5 @@
--- A module with its references declared: it has perhaps one more element segment, which is declarative and is allocated wherever the module is.
+-- A module with its references declared: it has perhaps one more element segment, which is
+-- declarative and is allocated wherever the module is.
 use Rattle.base_lists.proofs.Common.{◌≡◌, ℕ, zero, suc, ◌+◌, ◌<◌, List, [], ◌∷◌, map, length, Some, refl, sym, arith, append-nil, slice_get, same_Some, range_with_len, kept_is, map_from, slice_get_there, all_there_from, is_some_there}
 use Rattle.wasm_tree.specs.declared.module.ConstExpr.TheVariants as const
 use Rattle.wasm_tree_spec.specs.Prelude.{Module, funcs_of}
@@ -27,7 +28,8 @@ module _ (env : Environment) (u : Module) (j : Inst) where
       is_some_there _ (rw (← g.2, a.1))) in
       is_some_there _ (rw r.are)
 
-  -- the segment that declares a module's references is allocated, where the instance names as many functions as the module has
+  -- The segment that declares a module's references is allocated if the instance has as many
+  -- functions as the module.
   pub last_elems : (m : Module) → length j.funcs ≡ length (funcs_of m) → (es : List Elem) × (all_there (elem_of env (one u) (j ∷ []) 0) (last_segments (declared_refs m)) ≡ Some es)
   last_elems m e = segments_there (declared_refs m) (λ n f h.
       grind (arith, kept_is _ (range_with_len 0 (length (funcs_of m))) n f h, range_below 0 (length (funcs_of m))))

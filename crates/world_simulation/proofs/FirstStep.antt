@@ -9,7 +9,7 @@ module _ (law : RelatedRunsHaveEqualTraces) (of : Space → ℕ → ℕ → Bool
   abbrev R : Pairing
   R = passed of of []
 
-  -- it shows the same event in both, and leads to related runs
+  -- The first step shows the same event in both runs, and leads to related runs.
   first_step : {b c : Begun} → BegunRel R (EntryByEntry R) b c → RelatedOuts R (tick (fresh_run env (Some b) moves)) (tick (fresh_run env (Some c) moves))
   first_step g = grind (arith, nil, closed, pending)
 

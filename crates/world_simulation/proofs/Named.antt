@@ -1,4 +1,5 @@
--- Where each index of a set names what its entry names, so does each index of a body that names only these.
+-- If each index of a set names what its entry names, so does each index of a body that names only
+-- indices of the set.
 use Rattle.base_lists.proofs.Common.{List}
 use Rattle.wasm_tree_spec.specs.Prelude.{Instr, ListLayers}
 use Rattle.wasm_meaning.specs.Prelude.{Inst}

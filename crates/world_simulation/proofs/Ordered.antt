@@ -1,4 +1,5 @@
--- Segments of two worlds, partners in the same order, are copied to related stores, and trap in both or neither.
+-- Segments of two worlds, of which partners are in the same order, are copied to related stores,
+-- and trap in both or neither.
 use Rattle.base_lists.proofs.Common.{◌≡◌, ℕ, suc, List, ◌∷◌, length, Option, Some, None, Bool, false, refl, arith, slice_get, append_from, set_other, overwrite_rel, there, cond_two, then_rel, then_same_is, number_is, overwritten_length, overwrite_fits}
 use Rattle.wasm_tree_spec.specs.Prelude.{Space, ElementSegments, DataSegments, ConstExpr, ElemSeg, DataSeg, Module}
 use Rattle.wasm_meaning.specs.Prelude.{overwrite, no_items, no_bytes, RefVal, Val, Table, Memory, Inst, Store, Part, module_at, Environment, Filled, PlacedSegment, numbers, own_count, defined_before, insts_from, segments_in, placed_elems, placed_datas, or_trapped, copy_slots, run_elem_with}
@@ -16,11 +17,11 @@ use Rattle.world_simulation.proofs.Copied.{set_holds, HasRoom, nothing_kept}
 -- ---- each segment is one that its part defines ----
 
 module _ (env : Environment) (w : Instantiated) (k : Space) {A : Type 0} (definitions : Module → List A) where
-  -- a part defines the segment, at the segment's address
+  -- A part defines the segment, at the segment's address.
   abbrev IsDefined : PlacedSegment A → Type 0
   IsDefined x = (d : DefinedAt env w k definitions x.address) × (d.definition ≡ x.segment)
 
-  -- a part defines each segment of the list
+  -- Each segment of the list is defined by a part.
   abbrev pub Defines : List (PlacedSegment A) → Type 0
   Defines tasks = (n : ℕ) (x : PlacedSegment A) → slice_get tasks n ≡ Some x → IsDefined x
 
@@ -29,7 +30,8 @@ module _ {A : Type 0} (p : ℕ) (i : Inst) where
   task_at (a ∷ ns) (y ∷ xs) (suc n) x h = task_at ns xs n x h
   task_at _ _ n x h = grind arith
 
--- what holds of each segment of each module, with the address that stands at its place in the module's instance, holds of every segment of the list by part
+-- What holds of each segment of each module, with the address that the module's instance has for
+-- it, holds of every segment of the list by part.
 each_task : {A : Type 0} {P : PlacedSegment A → Type 0} (segs : Module → List A) (adds : Inst → List ℕ) (p : ℕ) (parts : List Part) (is : List Inst) →
     ((q : ℕ) (m : Module) (i : Inst) → module_at parts q ≡ Some m → slice_get is q ≡ Some i → (n : ℕ) (x : PlacedSegment A) → slice_get (adds i) n ≡ Some x.address → slice_get (segs m) n ≡ Some x.segment → P x) →
     (n : ℕ) (x : PlacedSegment A) → slice_get (segments_by_part segs adds p parts is) n ≡ Some x → P x
@@ -45,11 +47,12 @@ datas_by p (part ∷ parts) (i ∷ is) = rw (datas_by (suc p) parts is)
 datas_by p _ _ = refl
 
 module _ (env : Environment) (w : Instantiated) (are : insts_from env w.parts 0 w.parts ≡ Some w.insts) where
-  -- the instance of a part of a world that is instantiated
+  -- A world that is instantiated has the instance of each of its parts.
   pub inst_at : (p : ℕ) (m : Module) (i : Inst) → module_at w.parts p ≡ Some m → slice_get w.insts p ≡ Some i → IsInst env w.parts p m i
   inst_at p m i is there = grind (arith, inst_in _ _ _ are p m is)
 
-  -- parts define all segments of a kind, if each instance has the addresses of what its part defines of it
+  -- All segments of a kind are defined by parts, if each instance has the addresses of the segments
+  -- that its part defines.
   all_defined : {k : Space} {A : Type 0} (definitions : Module → List A) (adds : Inst → List ℕ) → own_count k env ≡ 0 →
       ((p : ℕ) (m : Module) (i : Inst) → IsInst env w.parts p m i → adds i ≡ numbers (defined_before k w.parts p) (length (definitions m))) → Defines env w k definitions (segments_by_part definitions adds 0 w.parts w.insts)
   all_defined definitions adds none_own first = each_task definitions adds 0 w.parts w.insts (λ p m i is_part is_inst n x address stands.
@@ -70,7 +73,8 @@ module _ (R : Pairing) where
 -- ---- the segments of one world ----
 
 module _ (Q : Filled → Type 0) (value : ConstExpr → Option Val) (s : Store) (still : (trapped : Bool) → Q (record { store = s; trapped = trapped })) where
-  -- Q holds of each run of a segment, if it holds of the store left as it is, and of the store where the run overwrites contents with as many items
+  -- Q holds of the result of a segment that is copied, if it holds of a store that is left as it
+  -- is, and of a store in which contents are overwritten with as many items.
   elem_holds : (x : PlacedSegment ElemSeg) → ((a : ℕ) (t : Table) (slots : List RefVal) → slice_get s.tables a ≡ Some t → length slots ≡ length t.slots → Q (copy_slots s x.address a t (Some slots))) → Q (run_elem_with value s x x.segment.mode)
   elem_holds x written = grind (arith, overwritten_length)
 
@@ -81,11 +85,12 @@ module _ (R : Pairing) (env : Environment) (w : Instantiated) where
   abbrev Room : Filled → Type 0
   Room f = HasRoom env w f.store
 
-  -- a run does not trap, and leaves the store as it was at the second addresses that R relates
+  -- A copy does not trap, and leaves the store as it was at the second addresses that R relates.
   abbrev Copies : Store → Filled → Type 0
   Copies s f = (f.trapped ≡ false) × RelatedStay (in_second R) s f.store
 
-  -- Of each run of a segment of one kind, in a store with room: it leaves room, and where the segment has no partner it does not trap and keeps what is related.
+  -- Each copy of a segment of one kind, in a store with room, leaves room; and if the segment has
+  -- no partner, it does not trap and keeps what is related.
   abbrev Runs : Space → {A : Type 0} → (Module → List A) → (PlacedSegment A → Type 0) → (Store → PlacedSegment A → Filled) → Type 0
   Runs k definitions alone run = (s : Store) → HasRoom env w s → (x : PlacedSegment _) → Room (run s x) × (IsDefined env w k definitions x → alone x → Copies s (run s x))
 
@@ -138,7 +143,7 @@ module _ (R : Pairing) (apart : OneToOne R) (env : Environment) (v w : Instantia
 
   -- ---- partners ----
 
-  -- related stores, trapped both or neither
+  -- The stores are related, and both trapped or neither did.
   abbrev Related : Filled → Filled → Type 0
   Related f g = StoreRel R f.store g.store × (f.trapped ≡ g.trapped)
 
@@ -150,7 +155,8 @@ module _ (R : Pairing) (apart : OneToOne R) (env : Environment) (v w : Instantia
 
   module _ {k : Space} {A : Type 0} {definitions : Module → List A} {partners : PlacedSegment A → PlacedSegment A → Type 0} {alone second_alone : PlacedSegment A → Type 0} {run second_run : Store → PlacedSegment A → Filled}
       (first : Runs (turned R) env v k definitions alone run) (second : Runs R env w k definitions second_alone second_run) (related : (s z : Store) → StoreRel R s z → (x y : PlacedSegment A) → partners x y → Related (run s x) (second_run z y)) where
-    -- partners are run on both sides; after one without partner its side goes on, and the other stays
+    -- Partners are copied on both sides; a segment without a partner is copied on its own side,
+    -- while the other store stays as it is.
     in_order : {xs ys : List (PlacedSegment A)} → InOrder partners alone second_alone xs ys → Defines env v k definitions xs → Defines env w k definitions ys → (s z : Store) → Stores s z → FilledAlike (one_by_one run s xs) (one_by_one second_run z ys)
     in_order ends d e s z like = assumption
     in_order (both {x = x} {y = y} p r) d e s z like =

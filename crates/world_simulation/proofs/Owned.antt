@@ -27,7 +27,8 @@ own_funcs_rel R env = flat_rel _ _ (λ o. maps_rel _ _ (self_rel o.funcs (λ ty.
 module _ (R : Pairing) (env : Environment) (own : SharesOwn R env) where
   -- ---- by key ----
 
-  -- as many keys as entities
+  -- Keys of the environment's own entities of one kind are related, if there are as many keys as
+  -- entities and each entity is related to itself.
   addressed_rel : {A : Type 0} (thing : ℕ → ExternalValue) (n : ℕ) (entities : List A) {keys : List OwnKey} → ListRel (λ _ _. Unit {0}) keys entities → ((a : ℕ) → a < n + length entities → ExternalValueRel R (thing a) (thing a)) → ListRel (KeyRel R) (addressed thing n keys) (addressed thing n keys)
   addressed_rel thing n [] nil h = nil
   addressed_rel thing n (x ∷ xs) (cons _ l) h = cons (record { key = refl; thing = h n (omega arith) }) (addressed_rel thing (suc n) xs l (λ a m. h a (omega arith)))

@@ -1,4 +1,5 @@
--- A module's items with other indices, where each index of a set names what its entry names: exports, starts, functions, constant expressions, and the modes of segments.
+-- Items of a module with other indices, where each index of a set names what its entry names:
+-- exports, starts, functions, constant expressions, and the modes of segments.
 use Rattle.base_lists.proofs.Common.{◌≡◌, arith, ℕ, Option, Some, refl, option_and_then, slice_get, slice_index, IsTrue, List}
 use Rattle.wasm_tree_spec.specs.Prelude.{Space, Types, Functions, ElementSegments, DataSegments, ConstExpr, ExportDesc, ElemMode, ElemSeg, DataMode, DataSeg, Instr, ListLayers}
 use Rattle.wasm_tree.specs.declared.module.Func as tree
@@ -11,11 +12,11 @@ use Rattle.world_simulation.specs.Prelude.{EntriesName, FuncsCorrespond, ElemsPa
 use Rattle.world_simulation.proofs.Named.{all_named}
 use Rattle.base_lists.proofs.Related.{placed_rel}
 
--- the offset of a segment, by values that are related
+-- Related values are the same offset of a segment.
 pub offset_same : (R : Pairing) {o p : Option Val} → OptRel (ValRel R) o p → option_and_then (num_of W32) o ≡ option_and_then (num_of W32) p
 offset_same R r = grind arith
 
--- the relation of addresses is that of stores, for what code names too
+-- The relation of the addresses that code names is that of the addresses of stores.
 abbrev as_stored : Pairing → Pairing
 as_stored R = record R { named = R.of }
 

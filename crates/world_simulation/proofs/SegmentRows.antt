@@ -1,4 +1,4 @@
--- Element segments that correspond, and that do not.
+-- Element segments that correspond, and others that do not.
 use Rattle.base_lists.proofs.Common.{refl, arith, List, [], ◌∷◌, Option, Some, None, false}
 use Rattle.wasm_tree.specs.declared.types.RefType.TheVariants as reft
 use Rattle.wasm_tree_spec.specs.Prelude.{ConstExpr, ElemMode, ElemSeg}
@@ -9,11 +9,11 @@ use Rattle.index_remap.specs.Prelude.{Pairing, some, cons, nil, reference, func,
 use Rattle.world_simulation.specs.Prelude.{ElemsCorrespond}
 use Rattle.world_simulation.specs.Definitions.{declared, kept}
 
--- nothing is related
+-- The relation relates nothing.
 abbrev R : Pairing
 R = passed (λ k a b. false) (λ k a b. false) []
 
--- the value of a function's index is that function, and any other expression is null
+-- The value of a function index is that function, and the value of any other expression is null.
 abbrev value : ConstExpr → Option Val
 value (const.Func f) = Some (Ref (FuncRef (Some f)))
 value _ = Some (Ref (FuncRef None))
@@ -24,14 +24,14 @@ segment items mode = record { ty = reft.Func; items = items; mode = mode }
 abbrev of_null : List ConstExpr
 of_null = const.Null reft.Func ∷ []
 
--- a declarative one and one without its item
+-- A declarative segment corresponds to one without its item.
 items_are_gone : ElemsCorrespond R value value (segment (const.Func 0 ∷ []) elem.Declarative) (segment [] elem.Declarative)
 items_are_gone = declared refl refl
 
 nulls_are_related : ElemsCorrespond R value value (segment of_null elem.Passive) (segment of_null elem.Passive)
 nulls_are_related = kept refl refl (cons (some (reference (func none))) nil)
 
--- a passive one keeps its items, and a declarative one is no passive one
+-- A passive segment keeps its items, and a declarative segment is no passive one.
 not_without_its_item : ElemsCorrespond R value value (segment (const.Func 0 ∷ []) elem.Passive) (segment [] elem.Passive) → ⊥
 not_without_its_item h = grind arith
 

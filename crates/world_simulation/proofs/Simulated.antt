@@ -1,4 +1,4 @@
--- Two worlds that correspond are instantiated to what is related.
+-- Two worlds that correspond are instantiated to related stores and views.
 use Rattle.base_lists.proofs.Common.{◌≡◌, Some, arith, option_and_then, and_then_is, all_there_length, all_rel, opt_both, copies_length}
 use Rattle.wasm_meaning.specs.Prelude.{Store, ref_of, Environment, World, Begun, stores_from, own_store, all_there, instantiate, links}
 use Rattle.index_remap.specs.Prelude.{Pairing, OneToOne, OptRel, nil, cons, opening, BegunRel, EntryByEntry}
@@ -47,7 +47,7 @@ module _ (R : Pairing) (apart : OneToOne R) (env : Environment) (v w : World) (s
       (datas_in_order R apart env first second k.datas (datas_defined env first x.are_insts) (datas_defined env second y.are_insts)) in
       rw (← x.is, ← y.is) (record { store = filled.stores.related; entries = tt; closed = tt; trapped = filled.trapped; view = opt_both (all_rel k.view) x.is_view y.is_view; owned = owned_rel R env k.own })
 
-  -- both are instantiated, to what is related, or neither is
+  -- Both worlds are instantiated, with related results, or neither is.
   pub instances_rel : StartsCorrespond R env v w → links env v ≡ links env w → OptRel (BegunRel R (EntryByEntry R)) (instantiate env v) (instantiate env w)
   instances_rel starts linked = alike_there _ _ linked (λ b c f g.
       let x = what_is_made env v b f in

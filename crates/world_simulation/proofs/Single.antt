@@ -39,6 +39,6 @@ module _ (R : Pairing) (env : Environment) (own : SharesOwn R env) where
         rw (thing_is env t n, thing_is env u n, same, imports) (ap (λ o. unwrap_or o false) (on_some (slice_get t.imports n) (λ i. then_eq (thing_rel t.types (slice_get t.imports n)) (λ _ _. match_same i.desc))))
     matched_same (suc p) n = refl
 
-    -- the same imports match in both or in neither
+    -- The same imports match in both worlds or in neither.
     pub all_matched : all_of (is_matched env (one t) s) (sites (one t)) ≡ all_of (is_matched env (one u) z) (sites (one u))
     all_matched = rw (fun_ext (λ (x : Site). matched_same x.part x.import)) (ap (λ (is : List Import). all_of (is_matched env (one u) z) (sites_in 0 (length is) 0 ++ [])) (sym imports))

@@ -9,14 +9,16 @@ use Rattle.index_remap.specs.Prelude.{ListRel, nil, cons}
 use Rattle.world_simulation.specs.Starts.{from_nothing_to_nothing, NamesStart, CallsEach}
 use Rattle.base_simulation.proofs.StepwiseSimulation.{StepsTogether, both, second, stuttering_traces_are_equal}
 
--- The entries that all others stand on: the starts that are left to open; and, where one start calls them, its own frame with the calls that are left.
+-- The entries at the bottom of the stack: the starts that are left to open; and, where one start
+-- calls them, its own frame with the calls that are left.
 abbrev openings : List ℕ → List Entry
 openings xs = Opening xs ∷ []
 
 abbrev calls : Inst → List ℕ → List Entry
 calls j ns = Running (record { inst = j; locals = []; results = []; levels = record { values = []; code = map i.Call ns; gives = 0; takes = 0; back = [] } ∷ [] }) ∷ Opening [] ∷ []
 
--- Runs with the starts one after the other, and with the one start; the second has so many steps left to make alone.
+-- The run with the starts one after the other is alike to the run with the one start; `d` is the
+-- number of steps that the second has left to make alone.
 data Alike : ℕ → Run → Run → Type 0 where
   the_same : {d : ℕ} (r : Run) → Alike d r r
   fresh : (env : Environment) (b : Begun) (a : ℕ) (moves : List Move) → CallsEach b.store a b.starts → Alike 2 (fresh_run env (Some b) moves) (fresh_run env (Some (record b { starts = a ∷ [] })) moves)
@@ -24,7 +26,7 @@ data Alike : ℕ → Run → Run → Type 0 where
   between : (r : Run) (xs ns : List ℕ) (j : Inst) → ListRel (NamesStart r.store j) ns xs → Alike 1 (record r { entries = openings xs }) (record r { entries = calls j ns })
   inside : (r : Run) (es : List Entry) (xs ns : List ℕ) (j : Inst) → GivesNothing es → ListRel (NamesStart r.store j) ns xs → Alike 1 (record r { entries = es ++ openings xs }) (record r { entries = es ++ calls j ns })
 
--- two steps show the same event, and lead to runs that are alike
+-- Two steps show the same event, and lead to runs that are alike.
 abbrev Agree : ℕ → Out → Out → Type 0
 Agree d o p = (o.1 ≡ p.1) × Alike d o.0 p.0
 
@@ -37,7 +39,7 @@ module _ (xs ns : List ℕ) (j : Inst) where
   entered r (Own pair t) e = goes_on r (Waiting t.results ∷ []) refl (rw e a_call)
   entered r (Placeholder n t) e = trapped r
 
-  -- the same functions are named, whatever else is in the store
+  -- The same functions are named in every store with these functions.
   still_named : {s t : Store} → ListRel (NamesStart s j) ns xs → t.funcs ≡ s.funcs → ListRel (NamesStart t j) ns xs
   still_named l e = each_rel (λ _ _ x. record { named = x.named; typed = rw e x.typed }) l
 

@@ -1,4 +1,5 @@
--- What stands at the addresses of allocated stores; stores of which the definitions correspond are related.
+-- What allocated stores have at their addresses; stores of which the definitions correspond are
+-- related.
 use Rattle.base_lists.proofs.Common.{◌≡◌, ℕ, List, Option, Some, refl, sym, ◌∙◌, arith, zero-add, option_and_then, slice_get, slice_get-map, all_there_at, slice_get_there, each_rel, copies_rel, get_rel, then_rel, opt_both, opt_self, self_rel, all_rel}
 use Rattle.wasm_tree_spec.specs.Prelude.{Space, Functions, Tables, Memories, Globals, ElementSegments, DataSegments, FuncType, ConstExpr, ElemSeg, GlobalDef, Module}
 use Rattle.wasm_tree.specs.declared.module.Func as tree
@@ -14,7 +15,7 @@ use Rattle.world_simulation.proofs.Owned.{null_rel, own_funcs_rel, own_tables_re
 -- ---- what stands at an address ----
 
 module _ (env : Environment) (w : Instantiated) (s : Store) (made : stores_from env w.parts w.insts (own_store env) 0 w.parts w.insts ≡ Some s) where
-  -- what the part of a definition adds, and where
+  -- The store has a definition's entity at its address, as the part of the definition adds it.
   stands_for : {k : Space} {A B : Type 0} {definitions : Module → List A} {get : Store → List B} → Allocates k get → {a : ℕ} (d : DefinedAt env w k definitions a) →
       (t : Store) × Adds env w.parts w.insts d.part d.of d.inst t × ((x : B) → slice_get (get t) d.place ≡ Some x → slice_get (get s) a ≡ Some x)
   stands_for allocates d =
@@ -48,11 +49,12 @@ module _ (R : Pairing) where
   pub func_rel : {i j : Inst} {f g : tree.Func} → FuncsCorrespond R i j f g → OptRel (FuncRel R) (new_func i f) (new_func j g)
   func_rel k = grind (arith, none, some, defined)
 
-  -- the function at an address of the first store, and its partner: if it is opaque, they need not be related
+  -- The function at an address of the first store and its partner have the same type and owner, and
+  -- are related unless the address is on the list.
   abbrev FuncPair : ℕ → Func → Func → Type 0
   FuncPair a f g = (type_of_func f ≡ type_of_func g) × (own_of f ≡ own_of g) × (¬ R.listed a → FuncRel R f g)
 
-  -- related functions are such a pair at any address
+  -- Related functions are such a pair at any address.
   as_pair : (a : ℕ) {f g : Func} → FuncRel R f g → FuncPair a f g
   as_pair _ (defined c) = (refl, refl, λ _. defined c)
   as_pair _ h = (refl, refl, λ _. h)
@@ -63,7 +65,7 @@ module _ (R : Pairing) where
   pub own_same : {o p : Option Func} → BothRel (FuncRel R) o p → option_and_then own_of o ≡ option_and_then own_of p
   own_same (both h) = (as_pair 0 h).1
 
-  -- what two definitions that correspond are allocated to is such a pair
+  -- The functions that are allocated for definitions that correspond are such a pair.
   func_pair : {a : ℕ} {i j : Inst} {f g : tree.Func} → FuncsAt R a i j f g → (x y : Func) → new_func i f ≡ Some x → new_func j g ≡ Some y → FuncPair a x y
   func_pair (alike k) x y e h = grind (arith, defined)
   func_pair (set_apart l t) x y e h = grind arith
@@ -82,7 +84,7 @@ module _ (R : Pairing) where
     pub alike_correspond : {d e : ElemSeg} → ElemsAlike R value second_value d e → ElemsCorrespond R value second_value d e
     alike_correspond k = grind (arith, declared, kept)
 
-    -- what both are allocated to is related
+    -- The element segments that are allocated for segments that correspond are related.
     elem_both : {d e : ElemSeg} → ElemsCorrespond R value second_value d e → (x y : Elem) → elem_with value d ≡ Some x → elem_with second_value e ≡ Some y → ElemRel R x y
     elem_both (declared f g) x y h k = search (arith, nil)
     elem_both {d} {e} (kept f g items) x y h k = opt_both (elem_rel {d = d} {e = e} (record { declarative = f ∙ sym g; items = items })) h k
@@ -91,7 +93,8 @@ module _ (R : Pairing) where
 
   module _ (env : Environment) (v w : Instantiated) (shares : SharesOwn R env) (defs : DefinitionsCorrespond R env v w) (s z : Store)
       (s_is : stores_from env v.parts v.insts (own_store env) 0 v.parts v.insts ≡ Some s) (z_is : stores_from env w.parts w.insts (own_store env) 0 w.parts w.insts ≡ Some z) where
-    -- what stands at the addresses of partners: the environment's own entities are as it has them
+    -- The entities at the addresses of partners are related, if those of the environment are and
+    -- those of definitions that correspond are.
     stand : {k : Space} {A B : Type 0} {definitions : Module → List A} {correspond : ℕ → Inst → A → ℕ → Inst → A → Type 0} {P : B → B → Type 0} {get : Store → List B} → Allocates k get → ListRel P (get (own_store env)) (get (own_store env)) → {a b : ℕ} →
         Partners env v w k definitions correspond a b →
         ((d : DefinedAt env v k definitions a) (e : DefinedAt env w k definitions b) → correspond d.part d.inst d.definition e.part e.inst e.definition → BothRel P (slice_get (get s) a) (slice_get (get z) b)) → BothRel P (slice_get (get s) a) (slice_get (get z) b)
@@ -100,7 +103,7 @@ module _ (R : Pairing) where
         rw (← same, keeps env v.parts v.insts allocates 0 v.parts v.insts (own_store env) s s_is a x.0 x.1, keeps env w.parts w.insts allocates 0 w.parts w.insts (own_store env) z z_is a x.0 x.1) (both (opt_self (get_rel rel a) x.1))
     stand allocates rel (partners.defined d e c) at_defined = at_defined d e c
 
-    -- the functions at related addresses are such a pair
+    -- The functions at related addresses are such a pair.
     func_pairs : {a b : ℕ} → R.of Functions a b → BothRel (FuncPair a) (slice_get s.funcs a) (slice_get z.funcs b)
     func_pairs {a} r = stand funcs_allocate (each_rel (λ _ _. as_pair a) (own_funcs_rel R env)) (defs.funcs _ _ r)
         (λ d e c.

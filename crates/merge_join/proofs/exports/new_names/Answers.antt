@@ -6,7 +6,7 @@ use Rattle.merge_spec.specs.Prelude.{named_modules}
 use Rattle.merge_join.proofs.Exported.{none_repeated, repeated_at}
 use Rattle.merge_join.proofs.exports.new_names.Goals as goal
 
--- where one of the names that are lent stands, there is one among those that are kept
+-- A place of a name in the borrowed list is a place in the kept list.
 is_within : (lent kept : List (Bor (List ℕ))) (place : ℕ) (name : List ℕ) → lent ≡ kept → slice_get (texts lent) place ≡ Some name → place < length kept
 is_within lent kept place name same at =
     let within = slice_get_within (texts lent) place name at in

@@ -12,7 +12,7 @@ use Rattle.merge_join.specs.LinkedParts.{PartsHold}
 use Rattle.merge_join.proofs.Outcomes.{joined_from}
 use Rattle.merge_join.proofs.merging.join.Goals as goal
 
--- where joining gives a tree, the parts can be joined, and the tree is their merged module
+-- If joining gives a tree, the parts can be joined and the tree is their merged module.
 can_join : (ps : List Part) (mode : Mode) (tree : Module) → PartsHold ps → link_fault ps true ≡ None → Joins ps mode (Ok tree) → CanBeJoined ps mode × (joined_module ps mode ≡ tree)
 can_join ps mode tree hold linked joins =
     let is = joined_from (repeated_name ps mode) (over_limit (joined_module ps mode)) (joined_module ps mode) tree joins in (

@@ -13,7 +13,7 @@ use Rattle.merge_join.proofs.MovedParts.{module_of_part, moved_more, moved_all}
 use Rattle.merge_join.proofs.moving.moved_parts.Goals as goal
 use Rattle.merge_join.proofs.moving.moved_parts.Goals.{in-Some+in_ok-move_part, in_default}
 
--- the part that is taken out stood there from the first
+-- The part that is taken out is the original part at that place.
 taken : (parts left : List Part) (at : ℕ) (x : Part) (m : Module) → ((n : ℕ) → at ≤ n → slice_get left n ≡ slice_get parts n) → Some x ≡ slice_get left at → m ≡ x.«module» → module_at (named_modules parts) at ≡ Some m
 taken parts left at x m same is of = module_of_part parts at x (sym (same at (omega arith)) ∙ sym is) ∙ ap Some (sym of)
 

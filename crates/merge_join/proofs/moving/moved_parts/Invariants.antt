@@ -3,7 +3,7 @@ use Rattle.merge_spec.specs.Parts.{named_modules}
 use Rattle.merge_join.proofs.MovedParts.{filled}
 use Rattle.merge_join.proofs.moving.moved_parts.Given as goal
 
--- the parts that are left, and what was moved of the others
+-- The parts from the place on are unchanged, and the definitions of the others are moved.
 abbrev pub invariant-loop-at : goal.invariant-loop-at
 invariant-loop-at l =
     ((n : ℕ) → l.at ≤ n → slice_get l.parts n ≡ slice_get l.initial.parts n)

@@ -8,7 +8,7 @@ use Rattle.split_spec.specs.declared.faults.SplitFault.TheVariants.{NoMemory}
 use Rattle.split_spec.specs.Prelude.{split_fault}
 use Rattle.split_slots.proofs.splitting.split.Goals as goal
 
--- where there is a fault, it or want of memory is told
+-- Where there is a fault, the result is this fault or the lack of memory.
 first_told : {A : Type 0} (r : Result A SplitFault) (o : Option SplitFault) → (IsOk r → o ≡ None) → IfErr r (λ e. (e ≡ NoMemory) ⊎ (o ≡ Some e)) → (e : SplitFault) → o ≡ Some e →
     (r ≡ Err e) ⊎ (r ≡ Err NoMemory)
 first_told (Ok v) o none fault e is = absurd (let gone : None ≡ Some e = sym (none refl) ∙ is in cc)

@@ -9,7 +9,8 @@ decreases-read_block l = 2 * l.deeper
 abbrev pub decreases-read_sequence : goal.decreases-read_sequence
 decreases-read_sequence l = 2 * l.deeper + 1
 
--- with fuel enough, what the whole gives is what the rest gives behind the items so far, which lie on the pile behind what lay there
+-- The result of the whole sequence is that of the rest with the items so far in front, if there is
+-- enough fuel. The items lie on the pile above the instructions from before.
 abbrev pub invariant-read_sequence-tokens : goal.invariant-read_sequence-tokens
 invariant-read_sequence-tokens l =
     (items : List Instr)

@@ -14,7 +14,7 @@ invariant_of-self-lent c w =
     let i = c.self.invariant in
     (kept_written _ _ _ i.0 c.args.block.now.number (rw (← c.self.view_is) at c.requires) w, (rw (length-set c.self.inside.blocks.items c.args.block.now.number w) i.1.0, i.1.1))
 
--- the block that is lent stays live, so that as many are
+-- The block whose bytes are borrowed stays live, so the number of live blocks is unchanged.
 pub returns : goal.returns
 returns c =
     let live : IsLive (the_view c.self.inside) c.args.block.now.number = rw (← c.self.view_is) at c.requires in

@@ -19,7 +19,7 @@ decreases-run_code l = 4 * l.self.now.kept.turns + 3
 abbrev pub decreases-run_instr : goal.decreases-run_instr
 decreases-run_instr l = 4 * l.self.now.kept.turns + 2
 
--- the whole comes to the rest
+-- Running the code from its beginning leads to running the rest of the code from the current place.
 abbrev pub invariant-run_code-code : goal.invariant-run_code-code
 invariant-run_code-code l = record {
   runs : (p : LevelPlace) (es : List Entry) → depth p es ≡ l.depth → ComesTo l.input (running l.input l.initial.self l.code p es) (running l.input l.self (drop l.at l.code) p es);
