@@ -3,7 +3,7 @@ use Rattle.std.proofs.Common.{◌≡◌, ℕ, zero, suc, ◌+◌, ◌*◌, List,
 use Rattle.base_simulation.specs.Machines.{Machine, events_of, IsPrefix}
 use Rattle.base_simulation.specs.Simulations.{StepsTogether}
 use Rattle.base_simulation.proofs.Lockstep.{lockstep}
-use Rattle.base_simulation.proofs.StepwiseSimulation.{StepsTogether, both, second, stuttering_traces_are_equal, IsAnsweredBySome, stuttering_simulation}
+use Rattle.base_simulation.proofs.StepwiseSimulation.{NextStepsAreRelated, both, second, stuttering_traces_are_equal, IsAnsweredBySome, stuttering_simulation}
 
 -- A machine that counts, with each number as an event.
 abbrev counts : Machine ℕ ℕ
@@ -40,7 +40,7 @@ waits (suc k, n) = ((k, n), None)
 data Waiting : (d e : ℕ) → ℕ → ℕ × ℕ → Type 0 where
   for : {k n : ℕ} → Waiting k 0 n (k, n)
 
-still_waits : (d e : ℕ) (s : ℕ) (q : ℕ × ℕ) → Waiting d e s q → StepsTogether counts waits Waiting d e s q
+still_waits : (d e : ℕ) (s : ℕ) (q : ℕ × ℕ) → Waiting d e s q → NextStepsAreRelated counts waits Waiting d e s q
 still_waits d e s (zero, n) for = both refl for
 still_waits d e s (suc k, n) for = second refl for
 

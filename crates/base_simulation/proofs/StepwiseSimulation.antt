@@ -8,22 +8,22 @@ use Rattle.base_simulation.proofs.Stuttering.{followed_traces_are_bounded, answe
 
 -- The next steps from related states: both machines step with equal events, or one of them makes a
 -- stuttering step that is left to it.
-pub data StepsTogether {S T E : Type 0} (t : Machine S E) (u : Machine T E) (I : ℕ → ℕ → S → T → Type 0) : ℕ → ℕ → S → T → Type 0 where
-  both : {d e : ℕ} {r : S} {q : T} → (t r).1 ≡ (u q).1 → I d e (t r).0 (u q).0 → StepsTogether t u I d e r q
-  second : {d e : ℕ} {r : S} {q : T} → (u q).1 ≡ None → I d e r (u q).0 → StepsTogether t u I (suc d) e r q
-  first : {d e : ℕ} {r : S} {q : T} → (t r).1 ≡ None → I d e (t r).0 q → StepsTogether t u I d (suc e) r q
+pub data NextStepsAreRelated {S T E : Type 0} (t : Machine S E) (u : Machine T E) (I : ℕ → ℕ → S → T → Type 0) : ℕ → ℕ → S → T → Type 0 where
+  both : {d e : ℕ} {r : S} {q : T} → (t r).1 ≡ (u q).1 → I d e (t r).0 (u q).0 → NextStepsAreRelated t u I d e r q
+  second : {d e : ℕ} {r : S} {q : T} → (u q).1 ≡ None → I d e r (u q).0 → NextStepsAreRelated t u I (suc d) e r q
+  first : {d e : ℕ} {r : S} {q : T} → (t r).1 ≡ None → I d e (t r).0 q → NextStepsAreRelated t u I d (suc e) r q
 
-pub follows_by_steps : {S T E : Type 0} (t : Machine S E) (u : Machine T E) (I : ℕ → ℕ → S → T → Type 0) → ((d e : ℕ) (r : S) (q : T) → I d e r q → StepsTogether t u I d e r q) → (steps d e : ℕ) (r : S) (q : T) → I d e r q → Follows t u steps d e r q
+pub follows_by_steps : {S T E : Type 0} (t : Machine S E) (u : Machine T E) (I : ℕ → ℕ → S → T → Type 0) → ((d e : ℕ) (r : S) (q : T) → I d e r q → NextStepsAreRelated t u I d e r q) → (steps d e : ℕ) (r : S) (q : T) → I d e r q → Follows t u steps d e r q
 follows_by_steps t u I next zero d e r q i = simulations.Follows.so_far
 follows_by_steps {S} {T} t u I next (suc n) d e r q i = go (next d e r q i) (λ d e r q i. follows_by_steps t u I next n d e r q i)
   where
-    go : {d e : ℕ} {r : S} {q : T} → StepsTogether t u I d e r q → ((d e : ℕ) (r : S) (q : T) → I d e r q → Follows t u n d e r q) → Follows t u (suc n) d e r q
+    go : {d e : ℕ} {r : S} {q : T} → NextStepsAreRelated t u I d e r q → ((d e : ℕ) (r : S) (q : T) → I d e r q → Follows t u n d e r q) → Follows t u (suc n) d e r q
     go (both p j) more = simulations.both p (more _ _ _ _ j)
     go (second p j) more = simulations.second p (more _ _ _ _ j)
     go (first p j) more = simulations.first p (more _ _ _ _ j)
 
 -- The traces of related states are prefixes of each other, up to the stuttering steps left.
-pub stuttering_traces_are_equal : {S T E : Type 0} (t : Machine S E) (u : Machine T E) (I : ℕ → ℕ → S → T → Type 0) → ((d e : ℕ) (r : S) (q : T) → I d e r q → StepsTogether t u I d e r q) → (d e : ℕ) (r : S) (q : T) → I d e r q →
+pub stuttering_traces_are_equal : {S T E : Type 0} (t : Machine S E) (u : Machine T E) (I : ℕ → ℕ → S → T → Type 0) → ((d e : ℕ) (r : S) (q : T) → I d e r q → NextStepsAreRelated t u I d e r q) → (d e : ℕ) (r : S) (q : T) → I d e r q →
     (n : ℕ) → IsPrefix (events_of t r n) (events_of u q (n + d)) × IsPrefix (events_of u q n) (events_of t r (n + e))
 stuttering_traces_are_equal t u I next d e r q i = followed_traces_are_bounded t u d e r q (λ steps. follows_by_steps t u I next steps d e r q i)
 

@@ -55,7 +55,8 @@ module _ (R : Pairing) (off : Unknowns) (ev ew : Env) (st : StoreRelOff R off ev
   init_memory_rel : {h k : Body} {a b : ℕ} (bytes : List ℕ) (m : Memory) → BodyRel R ev.inst ew.inst h k → R.of Memories a b → ResRel (ActOff R off ev.inst ew.inst) (init_memory h bytes a m) (init_memory k bytes b m)
   init_memory_rel bytes m r p = bind_three _ _ r.values (λ n _ _ v. bind_same (or_trap (slice bytes n.1 n.2)) (λ b. writes_rel (written m n.0 b) r p v))
 
-  pub memory_init_rel : {h k : Body} (s t n m : ℕ) → BodyRel R ev.inst ew.inst h k → AreIndicesRelated R.of DataSegments ev.inst.datas ew.inst.datas s t → AreIndicesRelated R.of Memories ev.inst.mems ew.inst.mems n m → ResRel (ActOff R off ev.inst ew.inst) (memory_init ev h s n) (memory_init ew k t m)
+  pub memory_init_rel : {h k : Body} (s t n m : ℕ) → BodyRel R ev.inst ew.inst h k → AreIndicesRelated R.of DataSegments ev.inst.datas ew.inst.datas s t → AreIndicesRelated R.of Memories ev.inst.mems ew.inst.mems n m →
+      ResRel (ActOff R off ev.inst ew.inst) (memory_init ev h s n) (memory_init ew k t m)
   memory_init_rel {h} {k} s t n m r p q =
       bind_found p (λ _ _ p. bind_found (there (st.datas p)) (λ d e eq. subst (λ bytes. ResRel (ActOff R off ev.inst ew.inst) (with_memory ev n (init_memory h d.bytes)) (with_memory ew m (init_memory k bytes))) eq (bind_memory n m _ _ r q (λ _ _ x q. init_memory_rel d.bytes x r q))))
 

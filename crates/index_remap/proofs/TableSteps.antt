@@ -6,7 +6,8 @@ use Rattle.wasm_meaning.specs.Prelude.{Outcome, Gives, Val, RefVal, Table, Env, 
 use Rattle.wasm_num.specs.Operations.{W32}
 use Rattle.wasm_meaning.specs.Tables.{table_get, table_set, table_size, table_grow, table_fill, table_copy, table_init, elem_drop}
 use Rattle.wasm_meaning.proofs.Outcomes.{then_given, then_found}
-use Rattle.index_remap.specs.Prelude.{Pairing, OptRel, ResRel, done, wrong, ListRel, nil, cons, RefRel, ValRel, number, reference, AreIndicesRelated, BodyRel, table_grows, drop_elem, goes, asks_grow, Unknowns, is_place_among, RefsOff, TableOff, StoreRelOff, ReadPlace, ReadsSlots, read_by, ReadsKnown}
+use Rattle.index_remap.specs.Prelude.{Pairing, OptRel, ResRel, done, wrong, ListRel, nil, cons, RefRel, ValRel, number, reference, AreIndicesRelated, BodyRel, table_grows, drop_elem, goes, asks_grow, Unknowns, is_place_among, RefsOff, TableOff, StoreRelOff, ReadPlace, ReadsSlots, read_by}
+use Rattle.index_remap.specs.Prelude.{ReadsKnown}
 use Rattle.index_remap.specs.Prelude.{known, ActOff}
 use Rattle.index_remap.specs.Unknown.{off_slots}
 use Rattle.index_remap.proofs.Rel.{bind_rel, bind_found, bind_found_is, or_trap_rel}

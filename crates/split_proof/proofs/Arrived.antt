@@ -24,7 +24,8 @@ use Rattle.split_proof.proofs.Entries.{holds}
 use Rattle.split_proof.proofs.AlwaysLoads.{small}
 use Rattle.split_proof.proofs.Placeholders.{placeholders_are, moved_typed, slot_stays}
 use Rattle.split_proof.proofs.Settled.{SettleLaws, w, runs_wider, module_loaded, module_is, load_fills, more, settled_run, settled}
-use Rattle.split_proof.proofs.Stuttering.{StutteringSteps, at, step_is, stuttering_state, stuttering_events, last_state, last_events}
+use Rattle.split_proof.proofs.Stuttering.{at, step_is}
+use Rattle.base_simulation.proofs.StutteringSteps.{StutteringSteps, stuttering_state, stuttering_events, last_state, last_events}
 
 -- The placeholder of a slot has the namespace and the number of the slot, and the type of the moved
 -- function.

@@ -20,7 +20,8 @@ use Rattle.split_proof.specs.States.{Corresponds, SlotHolds, SlotIs, filled, wai
 use Rattle.split_proof.proofs.Arrived.{world, in_slot, entered, in_place, stack_still, loaded_first}
 use Rattle.split_proof.proofs.Entered.{by_trampoline, enters_code, second_frame, frame_in}
 use Rattle.split_proof.proofs.Settled.{SettleLaws}
-use Rattle.split_proof.proofs.Stuttering.{StutteringSteps, before, at, ran_is, Reaches, whole, part, reaches}
+use Rattle.split_proof.proofs.Stuttering.{at, ran_is, Reaches, whole, part, reaches}
+use Rattle.base_simulation.proofs.StutteringSteps.{StutteringSteps, before}
 
 -- ---- functions that move ----
 

@@ -329,7 +329,8 @@ module _ (popped_typed : PoppedValuesHaveTypes) (passed_typed : PassedValuesHave
     }
 
     -- The next start function is called.
-    from_start : (a b : ℕ) (starts second_starts : List ℕ) (es fs : List Entry) → r.entries ≡ Opening (a ∷ starts) ∷ es → q.entries ≡ Opening (b ∷ second_starts) ∷ fs → R.listed a → R.of Functions a b → ListRel (R.of Functions) starts second_starts → WithPassing R es fs → StepsCallMovedTogether R r q
+    from_start : (a b : ℕ) (starts second_starts : List ℕ) (es fs : List Entry) → r.entries ≡ Opening (a ∷ starts) ∷ es → q.entries ≡ Opening (b ∷ second_starts) ∷ fs → R.listed a → R.of Functions a b → ListRel (R.of Functions) starts second_starts → WithPassing R es fs →
+        StepsCallMovedTogether R r q
     from_start a b starts second_starts es fs top second_top listed n rest stack = by (type_at r.store a) refl (type_at q.store b) refl (h.store.types n)
       where
         first_is : transition r ≡ or_closed r (started r starts es a)

@@ -3,7 +3,6 @@
 use Rattle.base_lists.proofs.Common.{◌≡◌, ◌∙◌, refl, sym, ap, ap₂, subst, ℕ, suc, ◌+◌, ◌≤◌, ◌&&◌, List, [], ◌∷◌, ◌++◌, Some, None, Bool, true, false, arith, slice_get, nat_eq, option_and_then, ℤ, and_parts, eqb-true, same_Some, and_then_is, map_from, unwrap_or_false_is, place_is, and_from}
 use Rattle.base_lists.proofs.Common.{each_same_is, each_same_self}
 use Rattle.base_lists.specs.Options.{◌>>=◌}
-use Rattle.base_simulation.specs.Machines.{Machine}
 use Rattle.wasm_num.specs.Operations.{W32, wrapped}
 use Rattle.wasm_tree_spec.specs.Prelude.{Functions, FuncType, Instr, Call, CallIndirect, I32Const, Module, same_type, same_types, same_func_type}
 use Rattle.wasm_tree.specs.declared.instr.Instr.{out-Instr}
@@ -31,7 +30,8 @@ use Rattle.split_proof.proofs.Entered.{direct, enters_code, funcs_stay, second_f
 use Rattle.split_proof.proofs.Entries.{holds}
 use Rattle.split_proof.proofs.Partners.{one_to_one}
 use Rattle.split_proof.proofs.Settled.{SettleLaws}
-use Rattle.split_proof.proofs.Stuttering.{StutteringSteps, at, before, here, last_events, last_state, ran_is, step_is}
+use Rattle.split_proof.proofs.Stuttering.{at, ran_is, step_is}
+use Rattle.base_simulation.proofs.StutteringSteps.{StutteringSteps, before, here, one_more, last_events, last_state}
 
 -- ---- what stands there ----
 
@@ -98,11 +98,6 @@ slot_called t g m ms u ty table slot c h more d fs =
     let type_is : type_at t c ≡ Some u = ap (option_and_then (λ f. Some (type_of_func f))) h.is_function ∙ ap Some h.typed in
     ap (λ a. bind a (perform t called fs)) calls
     ∙ ap (λ o. bind (or_ill_typed o) (λ v. bind (pop_typed v.params more) (λ p. enter_at t c p.0 (Running (at_code g m ms p.1 d) ∷ fs)))) type_is
-
--- A number of stuttering steps followed by one more.
-one_more : {S E : Type 0} (t : Machine S E) {n : ℕ} {s q r : S} → StutteringSteps t n s q → t q ≡ (r, None) → StutteringSteps t (suc n) s r
-one_more t here e = before e here
-one_more t (before f rest) e = before f (one_more t rest e)
 
 module _ (laws : SettleLaws) (answered : PlaceholdersAreAnswered) (namespace : ℕ → List ℕ) (names : SplitNames) (m : Module) (moved : List ℕ) (owns : List (List ℕ)) (g : CanBeSplit namespace names m moved owns) (env : Environment) (first second : Inst)
     (alike : InstancesAreRelated env m moved first second) (most : ℕ) where

@@ -1,33 +1,8 @@
 -- Stuttering steps of a run under a loader, and the steps of the machine that they consist of.
-use Rattle.base_lists.proofs.Common.{◌≡◌, ◌∙◌, refl, ap, sym, ℕ, zero, suc, ◌≤◌, List, [], ◌∷◌, None, Option, arith}
-use Rattle.std.specs.List.{cons_option}
-use Rattle.base_simulation.specs.Machines.{Machine, events_of, state_after}
+use Rattle.base_lists.proofs.Common.{◌≡◌, ◌∙◌, refl, ap, sym, ℕ, zero, suc, ◌≤◌, List, [], ◌∷◌, None, arith}
+use Rattle.base_simulation.proofs.StutteringSteps.{StutteringSteps, here, before}
 use Rattle.wasm_meaning.specs.Prelude.{Outcome, Gives, Traps, IllTyped, CallsOwn, CallsPlaceholder, Ended, EndsCall, Entry, Growing, Mark, Next, Opening, Ran, Running, Store, WaitsGrowth, Waiting, LoaderRun, LoaderWorld, loader_made, tick_loader, Run, Steps, transition, step}
 use Rattle.index_remap.specs.Prelude.{go_on}
-
--- ---- stuttering steps ----
-
-pub data StutteringSteps {S E : Type 0} (t : Machine S E) : ℕ → S → S → Type 0 where
-  here : {s : S} → StutteringSteps t zero s s
-  before : {n : ℕ} {s r q : S} → t s ≡ (r, None) → StutteringSteps t n r q → StutteringSteps t (suc n) s q
-
-module _ {S E : Type 0} (t : Machine S E) where
-  pub stuttering_state : {n : ℕ} {s q : S} → StutteringSteps t n s q → state_after t s n ≡ q
-  stuttering_state here = refl
-  stuttering_state {n = suc n} (before e rest) = ap (λ o. state_after t o.0 n) e ∙ stuttering_state rest
-
-  pub stuttering_events : {n : ℕ} {s q : S} → StutteringSteps t n s q → events_of t s n ≡ []
-  stuttering_events here = refl
-  stuttering_events {n = suc n} (before e rest) = ap (λ o. cons_option o.1 (events_of t o.0 n)) e ∙ stuttering_events rest
-
-  -- The state after a number of stuttering steps and one more step.
-  pub last_state : {n : ℕ} {s q : S} {o : S × Option E} → StutteringSteps t n s q → t q ≡ o → state_after t s (suc n) ≡ o.0
-  last_state here f = ap (λ o. o.0) f
-  last_state {n = suc n} (before e rest) f = ap (λ o. state_after t o.0 (suc n)) e ∙ last_state rest f
-
-  pub last_events : {n : ℕ} {s q : S} {o : S × Option E} → StutteringSteps t n s q → t q ≡ o → events_of t s (suc n) ≡ cons_option o.1 []
-  last_events here f = ap (λ o. cons_option o.1 []) f
-  last_events {n = suc n} (before e rest) f = ap (λ o. cons_option o.1 (events_of t o.0 (suc n))) e ∙ last_events rest f
 
 -- ---- steps of the machine ----
 

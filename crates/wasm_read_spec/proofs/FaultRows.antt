@@ -78,7 +78,8 @@ a_limit_may_be_reached = refl
 -- 50,000 locals are within the limit; 50,001 in two groups are not, even if the type of the second
 -- group is not supported.
 locals_enough : read_fault (of_entry (0x01 ∷ 0xD0 ∷ 0x86 ∷ 0x03 ∷ 0x7F ∷ 0xFD ∷ [])) false ≡ Some (Unsupported 2 (Some 0))
-unfolding read_at parts_at framed_at frames_at frame_at contents_at section_at agrees whole_at vector_at list_at each_from func_type_at val_at val_of_code tag_at unsigned_at codes_at entry_at code_at locals_at local_at body_at sequence_at token_at the_form un_of bin_of load_of store_of rest_form simple_of
+unfolding read_at parts_at framed_at frames_at frame_at contents_at section_at agrees whole_at vector_at list_at each_from func_type_at val_at val_of_code tag_at unsigned_at codes_at entry_at code_at
+    locals_at local_at body_at sequence_at token_at the_form un_of bin_of load_of store_of rest_form simple_of
 locals_enough = refl
 
 too_many_locals : read_fault (of_entry (0x02 ∷ 0x01 ∷ 0x7F ∷ 0xD0 ∷ 0x86 ∷ 0x03 ∷ 0x7D ∷ [])) false ≡ Some (Limit Locals)
@@ -102,7 +103,8 @@ blocks_enough = refl
 
 -- A file with 1,001 nested blocks in a body.
 blocks_in_a_file : read_fault (header ++ types ++ functions ++ 0x0A ∷ 0xD6 ∷ 0x0F ∷ 0x01 ∷ 0xD3 ∷ 0x0F ∷ 0x00 ∷ blocks 1001 []) false ≡ Some (Limit Nesting)
-unfolding read_at parts_at framed_at frames_at frame_at contents_at section_at agrees whole_at vector_at list_at each_from func_type_at val_at tag_at unsigned_at codes_at entry_at code_at locals_at local_at body_at sequence_at block_at block_type_at token_at the_form un_of bin_of load_of store_of rest_form simple_of
+unfolding read_at parts_at framed_at frames_at frame_at contents_at section_at agrees whole_at vector_at list_at each_from func_type_at val_at tag_at unsigned_at codes_at entry_at code_at locals_at
+    local_at body_at sequence_at block_at block_type_at token_at the_form un_of bin_of load_of store_of rest_form simple_of
 blocks_in_a_file = refl
 
 a_misspelled_block_too_many : code_at false (0x00 ∷ blocks 1000 (0x02 ∷ 0xFF ∷ 0x7F ∷ [])) ≡ Err fault.Malformed
@@ -180,14 +182,17 @@ a_token_is_told : faults bodies ≡ Some (Unsupported 2 (Some 0)) ∷ Some (Unsu
     ∷ Some (MalformedBody 0) ∷ Some (MalformedBody 0) ∷ Some (MalformedBody 0)
     ∷ Some (Unsupported 2 (Some 0)) ∷ Some (Unsupported 2 (Some 0)) ∷ Some (Unsupported 2 (Some 0)) ∷ Some (MalformedBody 0)
     ∷ Some (Unsupported 2 (Some 0)) ∷ Some (Unsupported 2 (Some 0)) ∷ []
-unfolding read_at parts_at framed_at frames_at frame_at contents_at section_at agrees whole_at vector_at list_at each_from func_type_at val_at val_of_code ref_at ref_of_code tag_at unsigned_at signed_at codes_at entry_at code_at locals_at local_at body_at sequence_at block_at block_type_at token_at prefixed_at memory_at arg_at the_form un_of bin_of load_of store_of rest_form sub_form simple_of
+unfolding read_at parts_at framed_at frames_at frame_at contents_at section_at agrees whole_at vector_at list_at each_from func_type_at val_at val_of_code ref_at ref_of_code tag_at unsigned_at
+    signed_at codes_at entry_at code_at locals_at local_at body_at sequence_at block_at block_type_at token_at prefixed_at memory_at arg_at the_form un_of bin_of load_of store_of rest_form sub_form
+    simple_of
 a_token_is_told = refl
 
 -- Where memories have indices, a memory index follows an alignment of 64 to 127, and 128 is no
 -- alignment.
 a_memory_is_named : map (λ bytes. read_fault bytes true) (of_body (0x28 ∷ 0x42 ∷ 0x00 ∷ 0x00 ∷ 0xFD ∷ []) ∷ of_body (0x28 ∷ 0xC2 ∷ 0x00 ∷ 0x00 ∷ 0x00 ∷ 0xFD ∷ []) ∷ of_body (0x28 ∷ 0x80 ∷ 0x01 ∷ 0x00 ∷ 0x00 ∷ 0xFD ∷ []) ∷ [])
     ≡ Some (Unsupported 2 (Some 0)) ∷ Some (Unsupported 2 (Some 0)) ∷ Some (MalformedBody 0) ∷ []
-unfolding read_at parts_at framed_at frames_at frame_at contents_at section_at agrees whole_at vector_at list_at each_from func_type_at val_at val_of_code tag_at unsigned_at codes_at entry_at code_at locals_at local_at body_at sequence_at token_at memory_at arg_at the_form un_of bin_of load_of store_of rest_form simple_of
+unfolding read_at parts_at framed_at frames_at frame_at contents_at section_at agrees whole_at vector_at list_at each_from func_type_at val_at val_of_code tag_at unsigned_at codes_at entry_at code_at
+    locals_at local_at body_at sequence_at token_at memory_at arg_at the_form un_of bin_of load_of store_of rest_form simple_of
 a_memory_is_named = refl
 
 -- ---- files with several faults
@@ -220,5 +225,7 @@ the_first_is_told : faults several ≡ Some (Malformed 1) ∷ Some (Limit Types)
     ∷ Some (Malformed 2) ∷ Some (MalformedBody 1) ∷ Some (Malformed 2)
     ∷ Some (Malformed 2) ∷ Some (Malformed 0)
     ∷ Some (Malformed 2) ∷ Some (Malformed 1) ∷ []
-unfolding read_at parts_at framed_at frames_at frame_at contents_at section_at agrees whole_at vector_at list_at each_from func_type_at val_at val_of_code mut_at mut_of_code tag_at unsigned_at signed_at text_at codes_at entry_at code_at locals_at local_at body_at sequence_at token_at prefixed_at the_form un_of bin_of load_of store_of rest_form sub_form simple_of import_at import_desc_at global_at global_def_at const_at
+unfolding read_at parts_at framed_at frames_at frame_at contents_at section_at agrees whole_at vector_at list_at each_from func_type_at val_at val_of_code mut_at mut_of_code tag_at unsigned_at
+    signed_at text_at codes_at entry_at code_at locals_at local_at body_at sequence_at token_at prefixed_at the_form un_of bin_of load_of store_of rest_form sub_form simple_of import_at import_desc_at
+    global_at global_def_at const_at
 the_first_is_told = refl

@@ -32,10 +32,12 @@ named =
     ∷ []
 
 names_are_passed : map (λ bytes. read_fault bytes false) named ≡ Some (MalformedBody 1) ∷ Some (Malformed 3) ∷ Some (Unsupported 0 None) ∷ Some (Malformed 0) ∷ []
-unfolding is_utf8 chars encode_utf8 text_at import_at import_desc_at global_at mut_at mut_of_code read_at parts_at framed_at frames_at frame_at contents_at section_at agrees whole_at vector_at list_at each_from func_type_at val_at val_of_code tag_at unsigned_at codes_at entry_at code_at locals_at local_at body_at sequence_at token_at the_form un_of bin_of load_of store_of rest_form simple_of
+unfolding is_utf8 chars encode_utf8 text_at import_at import_desc_at global_at mut_at mut_of_code read_at parts_at framed_at frames_at frame_at contents_at section_at agrees whole_at vector_at list_at
+    each_from func_type_at val_at val_of_code tag_at unsigned_at codes_at entry_at code_at locals_at local_at body_at sequence_at token_at the_form un_of bin_of load_of store_of rest_form simple_of
 names_are_passed = refl
 
 -- A body that drops data segment 0 in a file without a data count is a fault.
 a_drop_needs_a_count : read_fault (header ++ types ++ functions ++ section 10 (0x01 ∷ 0x05 ∷ 0x00 ∷ 0xFC ∷ 0x09 ∷ 0x00 ∷ 0x0B ∷ [])) false ≡ Some (Malformed 3)
-unfolding out-Instr denote.Hole.Carrier.out read_at parts_at framed_at frames_at frame_at contents_at section_at agrees whole_at vector_at list_at each_from func_type_at val_at val_of_code tag_at unsigned_at codes_at entry_at code_at locals_at local_at body_at sequence_at token_at prefixed_at the_form un_of bin_of load_of store_of rest_form sub_form simple_of
+unfolding out-Instr denote.Hole.Carrier.out read_at parts_at framed_at frames_at frame_at contents_at section_at agrees whole_at vector_at list_at each_from func_type_at val_at val_of_code tag_at
+    unsigned_at codes_at entry_at code_at locals_at local_at body_at sequence_at token_at prefixed_at the_form un_of bin_of load_of store_of rest_form sub_form simple_of
 a_drop_needs_a_count = simp (fold_out-Instr Bool (any_pass_step names_data)) refl

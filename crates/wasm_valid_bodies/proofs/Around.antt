@@ -25,7 +25,8 @@ pub back_again : (a b c : OperandStack) → IsBack a b → IsBack b c → IsBack
 back_again a b c (s, p, n) (t, q, m) = (t ∙ s, q ∙ p, m ∙ n)
 
 -- The end of a block restores the operands from before it.
-pub back : (old inside new : OperandStack) (outer : Outer) → beneath inside ≡ old.types.items → new.types.items ≡ beneath inside → outer.base ≡ old.base → new.base ≡ outer.base → outer.bottom ≡ old.bottom → new.bottom ≡ outer.bottom → outer.any_below ≡ old.any_below → new.any_below ≡ outer.any_below →
+pub back : (old inside new : OperandStack) (outer : Outer) → beneath inside ≡ old.types.items → new.types.items ≡ beneath inside → outer.base ≡ old.base → new.base ≡ outer.base → outer.bottom ≡ old.bottom → new.bottom ≡ outer.bottom → outer.any_below ≡ old.any_below →
+    new.any_below ≡ outer.any_below →
     IsBack old new
 back old inside new outer j i b' b l' l a' a =
     let items : new.types.items ≡ old.types.items = i ∙ j in

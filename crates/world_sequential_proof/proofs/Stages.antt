@@ -7,7 +7,7 @@ use Rattle.wasm_meaning.specs.Prelude.{over, StartDependsOnlyOnItsFrames, Sequen
 use Rattle.wasm_meaning.specs.Sequential.{with_run, turn_at}
 use Rattle.index_remap.specs.Prelude.{nil, opened, RunRel, CodeIsRelatedToItself, EntryByEntry, RelatedTicksAgree, OthersStay}
 use Rattle.std.proofs.Math.Seq.{drop-length}
-use Rattle.base_simulation.proofs.StepwiseSimulation.{StepsTogether, both, second}
+use Rattle.base_simulation.proofs.StepwiseSimulation.{NextStepsAreRelated, both, second}
 use Rattle.world_sequential_proof.proofs.ExternalValues.{space_in}
 use Rattle.world_sequential_proof.proofs.Joined.{made_upto, module_is}
 use Rattle.world_sequential_proof.proofs.Reached.{is_reached, reaching, one_to_one, defined_more}
@@ -72,7 +72,7 @@ module _ (env : Environment) (w : World) (insts : List Inst) (allocated : Store)
     seen : (k : ℕ) → Same k q.run r → q.rest ≡ [] → Stage d r q
 
   abbrev pub LeadsToStage : ℕ → Run → SequentialRun → Type 0
-  LeadsToStage d r q = StepsTogether tick tick_sequential (λ d e r q. Stage d r q) d 0 r q
+  LeadsToStage d r q = NextStepsAreRelated tick tick_sequential (λ d e r q. Stage d r q) d 0 r q
 
   -- A step of both runs, in which the sequential run adds no part.
   in_step : (d : ℕ) (r : Run) (q : SequentialRun) → tick_sequential q ≡ with_run q (tick q.run) → (tick r).1 ≡ (tick q.run).1 → Stage d (tick r).0 (record q { run = (tick q.run).0 }) → LeadsToStage d r q

@@ -6,7 +6,7 @@ use Rattle.wasm_meaning.specs.Prelude.{SequentialRun, view_over, goes_on, tick_s
 use Rattle.wasm_meaning.specs.Sequential.{before_parts}
 use Rattle.base_simulation.proofs.Prefixes.{in_more_steps}
 use Rattle.index_remap.specs.Prelude.{nil, cons, opening, pending, CodeIsRelatedToItself, RelatedTicksAgree, OthersStay}
-use Rattle.base_simulation.proofs.StepwiseSimulation.{StepsTogether, both, second, stuttering_traces_are_equal}
+use Rattle.base_simulation.proofs.StepwiseSimulation.{NextStepsAreRelated, both, second, stuttering_traces_are_equal}
 use Rattle.world_sequential_proof.proofs.Joined.{module_is}
 use Rattle.world_sequential_proof.proofs.Closed.{self_by, func_self}
 use Rattle.world_sequential_proof.proofs.ExtensionLaws.{ExtensionLaws}
@@ -115,7 +115,7 @@ module _ (env : Environment) (w : World) (insts : List Inst) (allocated : Store)
         go None e (inr all) = stage_now (λ p m less is. let part = and_then_is (slice_get w.parts p) _ m is in absurd (omega (arith, slice_get_within w.parts p part.0 part.1)))
 
   abbrev LeadsToEarly : ℕ → ℕ → Run → SequentialRun → Type 0
-  LeadsToEarly d e r q = StepsTogether tick tick_sequential (λ d e r q. Early d r q) d e r q
+  LeadsToEarly d e r q = NextStepsAreRelated tick tick_sequential (λ d e r q. Early d r q) d e r q
 
   -- ---- the first step ----
 
@@ -158,7 +158,7 @@ module _ (env : Environment) (w : World) (insts : List Inst) (allocated : Store)
       go (suc d) l = let s = step_of k d r q h (omega arith) in second (rw s.1) (rw s.1 s.2)
   next d e r q (later_on h) = on (stages.next env w insts allocated g itself below extend ticks others view view_is d r q h)
     where
-      on : {d : ℕ} → StepsTogether tick tick_sequential (λ d e r q. TheStage d r q) d 0 r q → LeadsToEarly d e r q
+      on : {d : ℕ} → NextStepsAreRelated tick tick_sequential (λ d e r q. TheStage d r q) d 0 r q → LeadsToEarly d e r q
       on (both p i) = both p (later_on i)
       on (second p i) = second p (later_on i)
 

@@ -7,7 +7,7 @@ use Rattle.wasm_meaning.specs.Prelude.{trapped, StartDependsOnlyOnItsFrames}
 use Rattle.wasm_meaning.specs.StartFrames.{goes_on}
 use Rattle.index_remap.specs.Prelude.{ListRel, nil, cons}
 use Rattle.world_simulation.specs.Starts.{from_nothing_to_nothing, NamesStart, CallsEach}
-use Rattle.base_simulation.proofs.StepwiseSimulation.{StepsTogether, both, second, stuttering_traces_are_equal}
+use Rattle.base_simulation.proofs.StepwiseSimulation.{NextStepsAreRelated, both, second, stuttering_traces_are_equal}
 
 -- The entries at the bottom of the stack: the starts that are left to open; and, where one start
 -- calls them, its own frame with the calls that are left.
@@ -57,7 +57,7 @@ module _ (xs ns : List ℕ) (j : Inst) where
 -- ---- the whole of it ----
 
 module _ (below : StartDependsOnlyOnItsFrames) where
-  next : (d e : ℕ) (r q : Run) → Alike d r q → StepsTogether tick tick (λ d _. Alike d) d e r q
+  next : (d e : ℕ) (r q : Run) → Alike d r q → NextStepsAreRelated tick tick (λ d _. Alike d) d e r q
   next d e r q (the_same x) = both refl (the_same _)
   next d e r q (fresh env b a moves c) =
       let opened = record (fresh_run env (Some b) moves) { store = b.store; phase = Pending b.view; owned = b.owned } in
