@@ -2,9 +2,9 @@
 use Rattle.base_lists.proofs.Common.{◌≡◌, ◌∙◌, ap, ◌-◌, List, length, map, drop, arith, refl, length-append, length-map}
 use Rattle.wasm_tree_spec.specs.Prelude.{ElemSeg, Export, Func, GlobalDef, Import, Module, funcs_of, globals_of, imported_funcs, imported_globals}
 use Rattle.base_kept.specs.Kept.{kept}
-use Rattle.dce_sweep_spec.specs.Marks.{Marks}
+use Rattle.dce_spec.specs.Marks.{Marks}
 use Rattle.index_remap.specs.Prelude.{declared}
-use Rattle.dce_sweep_spec.specs.Swept.{defined_funcs, defined_globals, kept_elem, kept_tree, renumbered_kept, swept}
+use Rattle.dce_spec.specs.Swept.{defined_funcs, defined_globals, kept_elem, kept_tree, renumbered_kept, swept}
 
 module _ (k : Marks) (m : Module) where
   pub funcs_behind : length k.funcs ≡ length (funcs_of m) → drop (length k.funcs - length m.funcs) k.funcs ≡ defined_funcs k m

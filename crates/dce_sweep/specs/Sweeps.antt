@@ -2,8 +2,8 @@
 use Rattle.std.specs.Prelude.{◌≡◌, Option, Some, None, Result, Ok, Err}
 use Rattle.wasm_tree_spec.specs.Prelude.{Which, Module}
 use Rattle.module_limits.specs.Counts.{over_limit}
-use Rattle.dce_sweep_spec.specs.Marks.{Marks}
-use Rattle.dce_sweep_spec.specs.Swept.{swept}
+use Rattle.dce_spec.specs.Marks.{Marks}
+use Rattle.dce_spec.specs.Swept.{swept}
 use Rattle.dce_sweep.specs.declared.faults.SweepFault.{SweepFault}
 use Rattle.dce_sweep.specs.declared.faults.SweepFault.TheVariants.{TooMany}
 

@@ -3,8 +3,8 @@
 ghost use Rattle.std.specs.Prelude.{◌≡◌, ◌-◌, ◌≤◌, length, map as each, drop, filter, IfOk, OnOk};
 ghost use Rattle.wasm_tree.specs.Spaces.{funcs_of, globals_of};
 ghost use Rattle.base_kept.specs.Kept.{kept};
-ghost use Rattle.dce_sweep_spec.specs.Swept.{is_kept_ref, kept_elem, kept_tree};
-ghost use Rattle.dce_sweep_spec.specs.Reached.{marks_of};
+ghost use Rattle.dce_spec.specs.Swept.{is_kept_ref, kept_elem, kept_tree};
+ghost use Rattle.dce_spec.specs.Reached.{marks_of};
 
 use base_kept::keep_marked;
 use dce_graph::Reached;

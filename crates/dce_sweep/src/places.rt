@@ -3,8 +3,8 @@
 ghost use Rattle.std.specs.Prelude.{◌≡◌, ◌≤◌, ◌<◌, ◌^◌, length, IfOk};
 ghost use Rattle.base_lists.specs.Places as places;
 ghost use Rattle.wasm_tree.specs.Bounds.{IsBounded};
-ghost use Rattle.dce_sweep_spec.specs.Swept as swept;
-ghost use Rattle.dce_sweep_spec.specs.Reached.{marks_of};
+ghost use Rattle.dce_spec.specs.Swept as swept;
+ghost use Rattle.dce_spec.specs.Reached.{marks_of};
 
 use base_kept::{add_numbers, new_places};
 use dce_graph::Reached;

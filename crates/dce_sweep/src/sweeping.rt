@@ -1,20 +1,19 @@
 ghost use Rattle.std.specs.Prelude.{◌≡◌, ◌⊎◌, Ok, Err, IfOk, IfErr};
-ghost use Rattle.dce_sweep_spec.specs.Closed.{AreClosed};
-ghost use Rattle.dce_sweep_spec.specs.Swept.{renumbered_kept};
+ghost use Rattle.dce_spec.specs.Closed.{AreClosed};
+ghost use Rattle.dce_spec.specs.Swept.{renumbered_kept};
 ghost use Rattle.wasm_tree.specs.Bounds.{IsBounded};
 ghost use Rattle.wasm_tree.specs.declared.module.Module.{Module as Tree};
 ghost use Rattle.wasm_valid.specs.Validity.{IsValid};
-ghost use Rattle.dce_behaves_proof.specs.Laws.{ObservationallyEquivalent};
+ghost use Rattle.dce_proof.specs.SweptModuleEquivalence.{ObservationallyEquivalent};
 ghost use Rattle.dce_sweep.specs.declared.faults.SweepFault.TheVariants.{NoMemory as OutOfMemory};
-ghost use Rattle.dce_sweep_spec.specs.Reached.{marks_of};
+ghost use Rattle.dce_spec.specs.Reached.{marks_of};
 ghost use Rattle.dce_sweep.specs.Sweeps.{Sweeps};
 
 use crate::faults::SweepFault;
 use crate::kept::kept_module;
 use crate::places::sweep_map;
-use dce_behaves_proof::swept_module_equivalent;
 use dce_graph::Reached;
-use dce_sweep_proof::{swept_modules_are_valid, what_is_kept_fits};
+use dce_proof::{swept_module_equivalent, swept_modules_are_valid, what_is_kept_fits};
 use index_remap::{declare_refs, renumber_in_place};
 use module_limits::over_limit;
 use std::alloc::Global;

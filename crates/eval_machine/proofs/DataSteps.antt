@@ -11,13 +11,13 @@ use Rattle.eval_machine.specs.declared.undo.UndoLog.{UndoLog}
 use Rattle.eval_machine.specs.declared.kept.Kept.{Kept}
 use Rattle.eval_machine.specs.declared.registers.Registers.{Registers}
 use Rattle.eval_machine.specs.Prelude.{LevelPlace, body_at, frame_at, MachineFits, state_in, store_in, Stays, BeginsWith, done_by}
-use Rattle.eval_machine.proofs.Imports.{address_of}
-use Rattle.eval_machine.proofs.Instructions.{IsStill, by_layer, ends_trap, still}
+use Rattle.eval_machine.proofs.IndexSpaces.{address_of}
+use Rattle.eval_machine.proofs.InstructionSteps.{IsStill, by_layer, ends_trap, still}
 use Rattle.eval_machine.proofs.Openings.{none_of}
 use Rattle.eval_machine.specs.Undo.{UndoStays}
-use Rattle.eval_machine.proofs.Undone.{segment_dropped, set_same}
-use Rattle.eval_machine.proofs.PouredState.{data_dropped}
-use Rattle.eval_machine.proofs.Stays.{memory_stays}
+use Rattle.eval_machine.proofs.UndoNotes.{segment_dropped, set_same}
+use Rattle.eval_machine.proofs.DataInOrder.{data_dropped}
+use Rattle.eval_machine.proofs.PreservedParts.{memory_stays}
 
 pub data_kind : (d : ImportDesc) → same_space DataSegments (space_of_import d) ≡ false
 data_kind (im.Func t) = refl

@@ -12,7 +12,7 @@ use Rattle.eval_machine.specs.declared.registers.Flow.TheVariants as flow
 use Rattle.eval_machine.specs.Prelude.{state_in, store_in, LevelPlace, called, depth, frame_at, running}
 use Rattle.eval_machine.specs.Flows.{RunsCode, back_of, entered, given, level_at, opened_by, outcome}
 use Rattle.eval_machine.proofs.Levels.{and_then, inner, inner_depth}
-use Rattle.eval_machine.proofs.Typed.{results_cut}
+use Rattle.eval_machine.proofs.TypedOperands.{results_cut}
 
 shallow : (d : ℕ) → d < MOST_DEPTH → nat_le MOST_DEPTH d ≡ false
 shallow d lt = lt-leb MOST_DEPTH d lt

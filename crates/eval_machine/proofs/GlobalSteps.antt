@@ -20,12 +20,12 @@ use Rattle.eval_machine.specs.declared.registers.Registers.{Registers}
 use Rattle.eval_machine.specs.declared.value.Value.{Value}
 use Rattle.eval_machine.specs.Prelude.{ended, global_of, is_of_import, is_unset, val_of, MachineFits, base_of, state_in, store_in, Stays, LevelPlace, body_at, frame_at, running, BeginsWith, begun, done_by}
 use Rattle.eval_machine.specs.Undo.{FlagsAreRight, IsNoted, segment_before, noted_global, global_before}
-use Rattle.eval_machine.specs.Held.{Meets, global_written, slot_written, read_of}
-use Rattle.eval_machine.proofs.Undone.{before_set}
-use Rattle.eval_machine.proofs.Chosen.{set_mapped}
-use Rattle.eval_machine.proofs.Stays.{memory_stays}
-use Rattle.eval_machine.proofs.Imports.{address_of, globals_many}
-use Rattle.eval_machine.proofs.Instructions.{IsStill, by_layer, ends_unknown, still, still_goes, still_stops, unknown_stops}
+use Rattle.eval_machine.specs.DenotedValues.{Meets, global_written, slot_written, read_of}
+use Rattle.eval_machine.proofs.UndoNotes.{before_set}
+use Rattle.eval_machine.proofs.SelectAndSet.{set_mapped}
+use Rattle.eval_machine.proofs.PreservedParts.{memory_stays}
+use Rattle.eval_machine.proofs.IndexSpaces.{address_of, globals_many}
+use Rattle.eval_machine.proofs.InstructionSteps.{IsStill, by_layer, ends_unknown, still, still_goes, still_stops, unknown_stops}
 
 -- ---- places whose elements pass a test ----
 

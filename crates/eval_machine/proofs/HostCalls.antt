@@ -12,17 +12,17 @@ use Rattle.eval_spec.specs.declared.limits.TheConstants.{MOST_TURNS}
 use Rattle.eval_spec.specs.declared.stop.Stop.{Stop}
 use Rattle.eval_spec.specs.declared.stop.Stop.TheVariants as why
 use Rattle.eval_spec.specs.Prelude.{State, Stage, Going, Stopped, Finished, is_going, stop_of, takes_and_gives_nothing, ComesTo, here, call_end, host_call, host_opened, after_start, booted, imported_func, own_inst}
-use Rattle.eval_proof.specs.Laws.{QuietEndsAreUnique}
+use Rattle.eval_proof.specs.EndsAndCounts.{QuietEndsAreUnique}
 use Rattle.eval_machine.specs.declared.kept.Kept.{Kept}
 use Rattle.eval_machine.specs.declared.registers.Registers.{Registers}
 use Rattle.eval_machine.specs.Prelude.{IsInitialMachine, CallEnds, IsReady, MemoryStays, Stays, MachineFits, IsUnmarked, base_of, state_in}
 use Rattle.eval_machine.specs.Flows.{RunsFrame, entered}
 use Rattle.block_pool.specs.Pages.{Pages}
-use Rattle.eval_machine.proofs.Stays.{fits_still}
-use Rattle.eval_machine.proofs.References.{is_ready}
-use Rattle.eval_references_proof.specs.References.{EvaluatedGlobalsAreTyped, EvaluatedRefsAreThere}
-use Rattle.eval_references_proof.specs.Imports.{ImportsAreTyped, ImportsTyped}
-use Rattle.eval_machine.proofs.Funcs.{FuncsAre, FuncsBegin, funcs_are, funcs_begin}
+use Rattle.eval_machine.proofs.PreservedParts.{fits_still}
+use Rattle.eval_machine.proofs.GlobalValues.{is_ready}
+use Rattle.eval_proof.specs.GlobalValues.{EvaluatedGlobalsAreTyped, EvaluatedRefsAreThere}
+use Rattle.eval_proof.specs.ImportedFunctions.{ImportsAreTyped, ImportsTyped}
+use Rattle.eval_machine.proofs.ModuleFunctions.{FuncsAre, FuncsBegin, funcs_are, funcs_begin}
 
 -- ---- the function at an index ----
 

@@ -13,8 +13,8 @@ use Rattle.eval_spec.specs.Prelude.{is_imported, own_inst}
 use Rattle.eval_machine.specs.Prelude.{ended, LevelPlace, MachineFits, store_in, BeginsWith, done_by, env_in}
 use Rattle.eval_machine.specs.Accesses.{loaded_from}
 use Rattle.eval_machine.specs.declared.kept.Kept.{Kept}
-use Rattle.eval_machine.proofs.Instructions.{IsStill, ends_on, ends_trap, ends_trap_first, ends_unknown}
-use Rattle.eval_machine.proofs.MemoryAt.{IsThere, at_first, found, imported_memory, none_is, none_there, only_limits, own_memory, slice_in, slice_out}
+use Rattle.eval_machine.proofs.InstructionSteps.{IsStill, ends_on, ends_trap, ends_trap_first, ends_unknown}
+use Rattle.eval_machine.proofs.DefinedMemory.{IsThere, at_first, found, imported_memory, none_is, none_there, only_limits, own_memory, slice_in, slice_out}
 
 little_same : (xs : List ℕ) → little xs ≡ spelled xs
 unfolding little

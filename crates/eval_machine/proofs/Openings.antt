@@ -15,7 +15,7 @@ use Rattle.eval_machine.specs.declared.registers.MachineAct.TheVariants as act
 use Rattle.eval_machine.specs.declared.registers.Flow.TheVariants as flow
 use Rattle.eval_machine.specs.Prelude.{LevelPlace, ComesToAct}
 use Rattle.eval_machine.specs.Instructions.{Opens, OpensWith}
-use Rattle.eval_machine.proofs.Instructions.{OpensStill, opens_still, opens_not}
+use Rattle.eval_machine.proofs.InstructionSteps.{OpensStill, opens_still, opens_not}
 
 pub out_block : (o : Instr) (ty : BlockType) (body : List Instr) → o ≡ Block ty body → out-Instr o ≡ Instr-F.Block ty body
 out_block o ty body e = ap out-Instr e ∙ outs-Block ty body

@@ -14,8 +14,8 @@ use Rattle.eval_spec.specs.declared.stop.Stop.TheVariants as why
 use Rattle.eval_spec.specs.Prelude.{first_held, is_imported, own_inst}
 use Rattle.eval_machine.specs.declared.kept.Kept.{Kept}
 use Rattle.eval_machine.specs.Prelude.{ended, LevelPlace, body_at, MachineFits, Wrote, told_of, write_tests, BeginsWith, done_by}
-use Rattle.eval_machine.proofs.Instructions.{ends_trap_first, ends_unknown}
-use Rattle.eval_machine.proofs.MemoryAt.{IsThere, imported_memory, own_memory}
+use Rattle.eval_machine.proofs.InstructionSteps.{ends_trap_first, ends_unknown}
+use Rattle.eval_machine.proofs.DefinedMemory.{IsThere, imported_memory, own_memory}
 use Rattle.eval_machine.proofs.WriteSteps.{IsWrite, begins_from, write_begins, wrote_form}
 
 -- ---- the bytes that a store makes of its value ----

@@ -12,8 +12,8 @@ use Rattle.eval_machine.specs.declared.kept.Kept.{Kept}
 use Rattle.eval_machine.specs.declared.value.Value.{Value}
 use Rattle.eval_machine.specs.declared.slots.Slot.TheVariants as slot
 use Rattle.eval_machine.specs.Prelude.{val_of, IsSlot, is_unknown_in, ref_in, slot_count, MachineFits, base_of, LevelPlace, BeginsWith}
-use Rattle.eval_machine.proofs.Imports.{address_of, tables_many}
-use Rattle.eval_machine.proofs.Instructions.{IsStill, ends_on, ends_trap, ends_unknown}
+use Rattle.eval_machine.proofs.IndexSpaces.{address_of, tables_many}
+use Rattle.eval_machine.proofs.InstructionSteps.{IsStill, ends_on, ends_trap, ends_unknown}
 
 -- ---- a table as an instruction finds it ----
 

@@ -13,10 +13,10 @@ use Rattle.eval_spec.specs.declared.stop.Stop.TheVariants as why
 use Rattle.eval_machine.specs.declared.kept.Kept.{Kept}
 use Rattle.eval_machine.specs.declared.registers.Registers.{Registers}
 use Rattle.eval_machine.specs.Prelude.{LevelPlace, body_at, running, MachineFits, state_in, Wrote, told_of, write_tests, BeginsWith, begun, done_by, env_in}
-use Rattle.eval_machine.proofs.FirstGlobals.{copies_are}
-use Rattle.eval_machine.proofs.Instructions.{by_layer}
-use Rattle.eval_machine.proofs.MemoryAt.{IsThere, slice_in}
-use Rattle.eval_machine.proofs.Overwritten.{overwrite_in, overwrite_out}
+use Rattle.eval_machine.proofs.InitialContents.{copies_are}
+use Rattle.eval_machine.proofs.InstructionSteps.{by_layer}
+use Rattle.eval_machine.proofs.DefinedMemory.{IsThere, slice_in}
+use Rattle.eval_machine.proofs.OverwrittenLists.{overwrite_in, overwrite_out}
 
 module _ (m : Module) (k : Kept) (f : MachineFits m k) (n : ℕ) (pages : Pages) (t : IsThere m k f n pages) (o : Instr) (z : Instr-F Instr) (vs ls : List Val) (rest : List Instr) (p : LevelPlace) (es : List Entry) where
   abbrev before : Registers

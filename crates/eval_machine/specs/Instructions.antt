@@ -4,7 +4,7 @@ use Rattle.wasm_tree_spec.specs.Prelude.{Instr, out-Instr, Module, BlockType, Va
 use Rattle.wasm_tree.specs.declared.instr.Instr.TheOpen.{Instr-F}
 use Rattle.base_lists.specs.Options.{◌>>=◌}
 use Rattle.wasm_meaning.specs.Prelude.{own_at, shape_of, type_at, Outcome, bind, Val, Entry, Env, Body, Act, Next, go, exec, perform, touched_by}
-use Rattle.index_remap.specs.Prelude.{left_after}
+use Rattle.run_simulation.specs.Prelude.{left_after}
 use Rattle.eval_spec.specs.declared.limits.TheConstants.{MOST_DEPTH}
 use Rattle.eval_spec.specs.declared.stop.Stop.{Stop}
 use Rattle.eval_spec.specs.declared.stop.Stop.TheVariants as why
@@ -15,7 +15,7 @@ use Rattle.eval_machine.specs.declared.registers.Registers.{Registers}
 use Rattle.eval_machine.specs.declared.registers.Flow.TheVariants as flow
 use Rattle.eval_machine.specs.declared.registers.MachineAct.{MachineAct}
 use Rattle.eval_machine.specs.declared.registers.MachineAct.TheVariants as act
-use Rattle.eval_machine.specs.Held.{Comes}
+use Rattle.eval_machine.specs.DenotedValues.{Comes}
 use Rattle.eval_machine.specs.Kept.{base_of, state_in, store_in}
 use Rattle.eval_machine.specs.Flows.{LevelPlace, body_at, called, depth, frame_at, opened_by, outcome, running}
 

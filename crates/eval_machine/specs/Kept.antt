@@ -5,16 +5,16 @@ use Rattle.base_lists.specs.Places.{places}
 use Rattle.block_pool.specs.Pages.{Pages, size}
 use Rattle.wasm_tree_spec.specs.Prelude.{Globals, Limits, DataSeg, Module, imported_funcs, imported_tables, imported_memories, globals_of}
 use Rattle.wasm_meaning.specs.Prelude.{Memory, Data, Store, no_bytes}
-use Rattle.index_remap.specs.Prelude.{none_unknown}
+use Rattle.run_simulation.specs.Prelude.{none_unknown}
 use Rattle.eval_spec.specs.declared.limits.TheConstants.{MOST_TURNS}
 use Rattle.eval_spec.specs.Prelude.{State, is_finished, state_of, is_imported, imported_store, instantiated}
-use Rattle.eval_references_proof.specs.References.{GlobalsAreTyped, RefsAreThere}
+use Rattle.eval_proof.specs.GlobalValues.{GlobalsAreTyped, RefsAreThere}
 use Rattle.eval_machine.specs.declared.globals.GlobalSlot.{GlobalSlot}
 use Rattle.eval_machine.specs.declared.kept.ImportCounts.{ImportCounts}
 use Rattle.eval_machine.specs.declared.kept.Kept.{Kept}
 use Rattle.eval_machine.specs.Undo.{FlagsAreRight}
 use Rattle.eval_machine.specs.Written.{HoldsMost}
-use Rattle.eval_machine.specs.Held.{global_of, is_of_import, is_unset}
+use Rattle.eval_machine.specs.DenotedValues.{global_of, is_of_import, is_unset}
 use Rattle.eval_machine.specs.Slots.{IsSlot, slot_at, slot_count, slots_declared}
 
 -- ---- the state ----

@@ -10,7 +10,7 @@ use Rattle.eval_machine.specs.declared.value.Value.{Value}
 use Rattle.eval_machine.specs.declared.value.Value.TheVariants as v
 use Rattle.eval_machine.specs.declared.slots.Slot.{Slot}
 use Rattle.eval_machine.specs.declared.slots.Slot.TheVariants as slot
-use Rattle.eval_machine.specs.Held.{val_of}
+use Rattle.eval_machine.specs.DenotedValues.{val_of}
 
 -- ---- in a state ----
 

@@ -11,9 +11,9 @@ ghost use Rattle.wasm_meaning.specs.Values.{num_of};
 ghost use Rattle.block_pool.specs.Pages.{IsWidth};
 ghost use Rattle.eval_machine.specs.Accesses.{bytes_in, loaded_from, val_at};
 ghost use Rattle.eval_machine.specs.Instructions.{BeginsWith};
-ghost use Rattle.eval_machine.specs.Held.{number_of as of_number, val_of};
+ghost use Rattle.eval_machine.specs.DenotedValues.{number_of as of_number, val_of};
 ghost use Rattle.eval_machine.specs.Kept.{MachineFits, datas_in};
-ghost use Rattle.eval_machine.specs.Stays.{Stays};
+ghost use Rattle.eval_machine.specs.UnchangedParts.{Stays};
 
 use crate::kept::Kept;
 use crate::memory::{copy, fill, init, store};
@@ -355,7 +355,7 @@ fn pop_range(operands: &mut Operands) -> Option<Range>
 }
 
 // Returns the bytes of a data segment; a dropped one has none.
-#[tactic(auto, using(crate::proofs::InitSteps::no_segment, crate::proofs::InitSteps::no_flag, crate::proofs::InitSteps::no_bytes_left, crate::proofs::InitSteps::bytes_there))]
+#[tactic(auto, using(crate::proofs::MemoryInitSteps::no_segment, crate::proofs::MemoryInitSteps::no_flag, crate::proofs::MemoryInitSteps::no_bytes_left, crate::proofs::MemoryInitSteps::bytes_there))]
 fn bytes_of<'a>(dropped: &Items<bool>, input: &'a Module, segment: u32) -> Option<&'a [u8]>
     ensures some { IfSome result (λ bytes. bytes_in (datas_in input.now.datas dropped.now) segment ≡ Some bytes.now) }
     ensures none { IsNone result → bytes_in (datas_in input.now.datas dropped.now) segment ≡ None }

@@ -1,6 +1,6 @@
 ghost use Rattle.std.specs.Prelude.{◌≡◌, ◌<◌, ◌≤◌, ℕ, IfOk, IsNone, Some, false, length, replicate, slice_get};
 ghost use Rattle.wasm_tree.specs.Spaces.{imported_memories, memories_of};
-ghost use Rattle.eval_machine.specs.Begun.{InstantiatesTo, PoursByMode, PoursData, PoursDatas};
+ghost use Rattle.eval_machine.specs.InstantiationParts.{InstantiatesTo, PoursByMode, PoursData, PoursDatas};
 ghost use Rattle.eval_machine.specs.Kept.{IsUnmarked, MemoryFits};
 
 use crate::initial::{blank_memory, first_globals, import_counts};
@@ -15,7 +15,7 @@ use wasm_tree::{ConstExpr, DataMode, DataSeg, Module};
 use wasm_valid::{Valid, valid_where_items_hold};
 
 // Writes the bytes of a data segment that is active for memory `index` at `offset`.
-#[tactic(auto, using(crate::proofs::Poured::memory_unknown, crate::proofs::Poured::another_memory, crate::proofs::Poured::no_memory, crate::proofs::Poured::no_place))]
+#[tactic(auto, using(crate::proofs::ActiveData::memory_unknown, crate::proofs::ActiveData::another_memory, crate::proofs::ActiveData::no_memory, crate::proofs::ActiveData::no_place))]
 fn pour(
     memory: &mut Option<Paged>,
     input: &Module,

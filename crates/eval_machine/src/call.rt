@@ -8,14 +8,13 @@ ghost use Rattle.wasm_valid.specs.Validity.{IsValid};
 ghost use Rattle.eval_spec.specs.Stops.{takes_and_gives_nothing};
 ghost use Rattle.eval_machine.specs.Calls.{CallEnds};
 ghost use Rattle.eval_machine.specs.Kept.{MachineFits};
-ghost use Rattle.eval_machine.specs.Stays.{Stays};
+ghost use Rattle.eval_machine.specs.UnchangedParts.{Stays};
 
 use crate::kept::Kept;
 use crate::locals::Locals;
 use crate::operands::Operands;
 use crate::registers::Registers;
-use eval_proof::quiet_runs_end;
-use eval_references_proof::imported_functions_are_typed;
+use eval_proof::{imported_functions_are_typed, quiet_runs_end};
 use eval_spec::Stop;
 use std::alloc::Global;
 use wasm_bytes::NoMemory;

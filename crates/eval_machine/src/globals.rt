@@ -1,5 +1,5 @@
 ghost use Rattle.std.specs.Prelude.{◌≡◌, IsSome, List, length, slice_get, slice_set};
-ghost use Rattle.eval_machine.specs.Held.{Meets, constant_of, global_written, read_of};
+ghost use Rattle.eval_machine.specs.DenotedValues.{Meets, constant_of, global_written, read_of};
 
 use crate::value::Value;
 use eval_spec::Stop;

@@ -11,8 +11,8 @@ ghost use Rattle.wasm_meaning.specs.Values.{zero_of};
 ghost use Rattle.wasm_meaning.specs.World.{global_with};
 ghost use Rattle.eval_spec.specs.Instantiation.{imported_store, value_in};
 ghost use Rattle.eval_spec.specs.declared.limits.TheConstants.{MOST_BLOCKS};
-ghost use Rattle.eval_machine.specs.Begun.{AreFirst, IsBlank, LimitsFew, standing_of};
-ghost use Rattle.eval_machine.specs.Held.{global_of, val_of};
+ghost use Rattle.eval_machine.specs.InstantiationParts.{AreFirst, IsBlank, LimitsFew, standing_of};
+ghost use Rattle.eval_machine.specs.DenotedValues.{global_of, val_of};
 ghost use Rattle.eval_machine.specs.Kept.{IsUnmarked, MemoryFits, counts_of};
 ghost use Rattle.eval_machine.specs.declared.globals.Standing.TheVariants.{Imported};
 

@@ -2,7 +2,7 @@ ghost use Rattle.std.specs.Prelude.{◌≡◌, ◌-◌, ◌/◌, ◌<◌, ◌≤
 ghost use Rattle.wasm_meaning.specs.Outcomes.{copies};
 ghost use Rattle.wasm_meaning.specs.State.{Val};
 ghost use Rattle.wasm_meaning.specs.Values.{declared, zeros};
-ghost use Rattle.eval_machine.specs.Held.{Comes, val_of, local_written};
+ghost use Rattle.eval_machine.specs.DenotedValues.{Comes, val_of, local_written};
 
 use crate::value::Value;
 use eval_spec::Stop;

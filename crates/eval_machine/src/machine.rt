@@ -1,20 +1,20 @@
 ghost use Rattle.std.specs.Prelude.{◌≡◌, ◌<◌, ◌≤◌, ◌↔◌, ℕ, [], IfOk, IfSome, IsNone, Some, length, slice_get};
 ghost use Rattle.block_pool.specs.Pages.{IsNextNonzero, IsZeroFrom, Pages, size};
 ghost use Rattle.wasm_tree.specs.declared.module.Module.{Module};
-ghost use Rattle.eval_spec.specs.Told.{value_of_global, memory_bytes, is_dropped};
+ghost use Rattle.eval_spec.specs.StateContents.{value_of_global, memory_bytes, is_dropped};
 ghost use Rattle.eval_machine.specs.Kept.{MachineFits, Rests, state_in};
 ghost use Rattle.wasm_tree.specs.Spaces.{funcs_of};
 ghost use Rattle.eval_spec.specs.State.{Finished};
 ghost use Rattle.eval_spec.specs.Quiet.{call_end};
 ghost use Rattle.eval_machine.specs.Calls.{IfDone, IfNotDone, IfNotReady, IfReady, IfStopped, SameButForTurns, IsReady, StopsBoot, StopsCall};
-ghost use Rattle.eval_machine.specs.Read.{HasByte};
+ghost use Rattle.eval_machine.specs.MachineContents.{HasByte};
 
 use crate::boot::instantiate;
 use crate::locals::Locals;
 use crate::operands::Operands;
 use crate::registers::Registers;
 use block_pool::Paged;
-use eval_references_proof::{
+use eval_proof::{
     calls_keep_values_of_globals, evaluated_globals_are_typed, evaluated_references_are_there,
     imported_functions_are_typed,
 };

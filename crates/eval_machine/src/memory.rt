@@ -3,7 +3,7 @@
 ghost use Rattle.std.specs.Prelude.{◌≡◌, ◌-◌, ◌+◌, ◌/◌, ◌≤◌, length, replicate};
 ghost use Rattle.block_pool.specs.Pages.{IsWidth, little_bytes, part, size};
 ghost use Rattle.eval_spec.specs.State.{first_held};
-ghost use Rattle.eval_machine.specs.Stays.{PagesStay};
+ghost use Rattle.eval_machine.specs.UnchangedParts.{PagesStay};
 ghost use Rattle.eval_machine.specs.Written.{HoldsMost, Wrote, bounds_tests, told_of, write_tests};
 
 use block_pool::Paged;
@@ -26,7 +26,7 @@ fn spend(paged: &Paged, turns: &mut u32, place: u32, count: u32) -> Option<Stop>
 }
 
 /// Executes `memory.fill`: writes `byte` to `count` bytes from `place` on.
-#[tactic(auto, using(crate::proofs::Stays::pages_stay, crate::proofs::Stays::writes_stay, crate::proofs::Writes::told_memory))]
+#[tactic(auto, using(crate::proofs::PreservedParts::pages_stay, crate::proofs::PreservedParts::writes_stay, crate::proofs::WrittenBlocks::told_memory))]
 pub(crate) fn fill(
     paged: &mut Paged,
     turns: &mut u32,
@@ -50,7 +50,7 @@ pub(crate) fn fill(
 
 /// Executes `memory.copy`: copies `count` bytes from `from` to `place`. The source must be in
 /// bounds.
-#[tactic(auto, using(crate::proofs::Stays::pages_stay, crate::proofs::Stays::writes_stay, crate::proofs::Writes::told_memory))]
+#[tactic(auto, using(crate::proofs::PreservedParts::pages_stay, crate::proofs::PreservedParts::writes_stay, crate::proofs::WrittenBlocks::told_memory))]
 pub(crate) fn copy(
     paged: &mut Paged,
     turns: &mut u32,
@@ -74,7 +74,7 @@ pub(crate) fn copy(
 }
 
 /// Executes `memory.init`: writes these bytes of a segment from `place` on.
-#[tactic(auto, using(crate::proofs::Stays::pages_stay, crate::proofs::Stays::writes_stay, crate::proofs::Writes::told_memory))]
+#[tactic(auto, using(crate::proofs::PreservedParts::pages_stay, crate::proofs::PreservedParts::writes_stay, crate::proofs::WrittenBlocks::told_memory))]
 pub(crate) fn init(paged: &mut Paged, turns: &mut u32, place: u32, bytes: &[u8]) -> Option<Stop>
     requires most { HoldsMost paged.old }
     requires few { length bytes.now ≤ 4294967295 }
@@ -92,7 +92,7 @@ pub(crate) fn init(paged: &mut Paged, turns: &mut u32, place: u32, bytes: &[u8])
 }
 
 /// Stores the `width` lowest bytes of a number at `place`; this takes no turns.
-#[tactic(auto, using(crate::proofs::Stays::pages_stay, crate::proofs::Stays::writes_stay, crate::proofs::Writes::told_store))]
+#[tactic(auto, using(crate::proofs::PreservedParts::pages_stay, crate::proofs::PreservedParts::writes_stay, crate::proofs::WrittenBlocks::told_store))]
 pub(crate) fn store(
     paged: &mut Paged,
     turns: u32,

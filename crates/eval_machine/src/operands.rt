@@ -5,7 +5,7 @@ ghost use Rattle.wasm_num.specs.Operations.{W32, type_of as width_of_number, val
 ghost use Rattle.wasm_meaning.specs.Outcomes.{Gives, IllTyped};
 ghost use Rattle.wasm_meaning.specs.State.{Val};
 ghost use Rattle.wasm_meaning.specs.Values.{pop_num as popped_num, unary, binary, ref_is_null, select_any, select_of, select_typed};
-ghost use Rattle.eval_machine.specs.Held.{Comes, TakesLevel, TakesTop, TakesTyped, are_typed, dropped, narrow_of, number_of, val_of, width_of};
+ghost use Rattle.eval_machine.specs.DenotedValues.{Comes, TakesLevel, TakesTop, TakesTyped, are_typed, dropped, narrow_of, number_of, val_of, width_of};
 
 use crate::operators::{is_binary_wide, is_unary_wide};
 use crate::value::Value;
@@ -86,7 +86,7 @@ impl Operands {
     }
 
     /// Executes an operation on one number (WebAssembly Core 2.0, section 4.4.1).
-    #[tactic(auto, using(crate::proofs::Numbers::unary_gives, crate::proofs::Numbers::unary_short))]
+    #[tactic(auto, using(crate::proofs::NumberOperations::unary_gives, crate::proofs::NumberOperations::unary_short))]
     pub fn unary(&mut self, op: UnOp) -> Result<Option<Stop>, NoMemory>
         ensures { IfOk result (λ stop. Comes (unary op self.old) stop self.new) }
     {
@@ -98,7 +98,7 @@ impl Operands {
     }
 
     /// Executes an operation on two numbers (section 4.4.1).
-    #[tactic(auto, using(crate::proofs::Numbers::binary_gives, crate::proofs::Numbers::binary_traps, crate::proofs::Numbers::binary_short, crate::proofs::Numbers::binary_one))]
+    #[tactic(auto, using(crate::proofs::NumberOperations::binary_gives, crate::proofs::NumberOperations::binary_traps, crate::proofs::NumberOperations::binary_short, crate::proofs::NumberOperations::binary_one))]
     pub fn binary(&mut self, op: BinOp) -> Result<Option<Stop>, NoMemory>
         ensures { IfOk result (λ stop. Comes (binary op self.old) stop self.new) }
     {
@@ -162,7 +162,7 @@ impl Operands {
     }
 
     /// Executes `select` without types (section 4.4.4).
-    #[tactic(auto, using(crate::proofs::Chosen::any_is, crate::proofs::Chosen::any_no_number))]
+    #[tactic(auto, using(crate::proofs::SelectAndSet::any_is, crate::proofs::SelectAndSet::any_no_number))]
     pub fn select(&mut self) -> Result<Option<Stop>, NoMemory>
         ensures { IfOk result (λ stop. Comes (select_any self.old) stop self.new) }
     {

@@ -2,7 +2,7 @@
 
 ghost use Rattle.std.specs.Prelude.{◌≡◌};
 ghost use Rattle.wasm_num.specs.Operations.{un_from, bin_from};
-ghost use Rattle.eval_machine.specs.Held.{width_of};
+ghost use Rattle.eval_machine.specs.DenotedValues.{width_of};
 
 use wasm_num::{BinOp, UnOp};
 use wasm_tree::ValType;

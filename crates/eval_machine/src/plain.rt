@@ -3,7 +3,7 @@
 ghost use Rattle.std.specs.Prelude.{◌≡◌, ◌∷◌, true, None, IfOk};
 ghost use Rattle.wasm_tree.specs.declared.instr.Instr.{out-Instr};
 ghost use Rattle.wasm_meaning.specs.Outcomes.{Gives, with_entry};
-ghost use Rattle.eval_machine.specs.Held.{Comes, local_set_by, val_of};
+ghost use Rattle.eval_machine.specs.DenotedValues.{Comes, local_set_by, val_of};
 ghost use Rattle.eval_machine.specs.Instructions.{DoesPlainly, is_plain};
 
 use crate::locals::Locals;

@@ -10,12 +10,12 @@ ghost use Rattle.eval_machine.specs.declared.registers.Flow.TheVariants as flow;
 ghost use Rattle.eval_machine.specs.declared.registers.Advance.TheVariants as advance;
 ghost use Rattle.eval_machine.specs.Flows.{RunsCall, RunsCode, RunsFrame, RunsInstr, RunsOpened};
 ghost use Rattle.eval_machine.specs.Kept.{MachineFits};
-ghost use Rattle.eval_machine.specs.Stays.{Stays};
+ghost use Rattle.eval_machine.specs.UnchangedParts.{Stays};
 
 use crate::locals::{Locals, turns_after};
 use crate::operands::Operands;
 use crate::registers::{Advance, Flow, MachineAct, Opening, Registers};
-use eval_references_proof::imported_functions_are_typed;
+use eval_proof::imported_functions_are_typed;
 use eval_spec::{MOST_DEPTH, Stop};
 use std::alloc::Global;
 use std::mem;

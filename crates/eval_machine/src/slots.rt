@@ -2,7 +2,7 @@ ghost use Rattle.std.specs.Prelude.{◌≡◌, ◌<◌, ◌+◌, ◌&&◌, ℕ, 
 ghost use Rattle.wasm_num.specs.Operations.{wrapped};
 ghost use Rattle.wasm_tree.specs.Spaces.{imported_tables};
 ghost use Rattle.eval_machine.specs.Kept.{MachineFits, base_of};
-ghost use Rattle.eval_machine.specs.Begun.{CopiesItems, FillsByMode, FillsSlots, FillsTables, elems_end, item_slot};
+ghost use Rattle.eval_machine.specs.InstantiationParts.{CopiesItems, FillsByMode, FillsSlots, FillsTables, elems_end, item_slot};
 ghost use Rattle.eval_machine.specs.Slots.{IsSlot, defined_table, filled_at, null_in, null_of, slot_count, slot_key};
 
 use crate::kept::Kept;
@@ -165,7 +165,7 @@ impl Slots {
     }
 
     /// Copies the items of an element segment that is active for this table and offset.
-    #[tactic(auto, using(crate::proofs::Imported::imported_unknown, crate::proofs::Imported::goes_past, crate::proofs::Imported::goes_in))]
+    #[tactic(auto, using(crate::proofs::ElementStops::imported_unknown, crate::proofs::ElementStops::goes_past, crate::proofs::ElementStops::goes_in))]
     pub(crate) fn copy_segment(
         &mut self,
         input: &Module,

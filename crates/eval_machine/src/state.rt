@@ -6,7 +6,7 @@ ghost use Rattle.wasm_tree.specs.declared.instr.Instr.TheVariants as i;
 ghost use Rattle.wasm_tree.specs.Spaces.{funcs_of};
 ghost use Rattle.eval_machine.specs.Instructions.{BeginsWith};
 ghost use Rattle.eval_machine.specs.Kept.{MachineFits};
-ghost use Rattle.eval_machine.specs.Stays.{Stays};
+ghost use Rattle.eval_machine.specs.UnchangedParts.{Stays};
 
 use crate::kept::Kept;
 use crate::operands::Operands;

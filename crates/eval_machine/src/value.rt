@@ -5,8 +5,8 @@ ghost use Rattle.wasm_tree.specs.SameTypes.{same_type};
 ghost use Rattle.wasm_meaning.specs.Values.{is_number, type_of, zero_of};
 ghost use Rattle.wasm_num.specs.Operations.{W32, W64, wrapped};
 ghost use Rattle.wasm_meaning.specs.State.{Num};
-ghost use Rattle.eval_spec.specs.Told.{constant};
-ghost use Rattle.eval_machine.specs.Held.{val_of};
+ghost use Rattle.eval_spec.specs.StateContents.{constant};
+ghost use Rattle.eval_machine.specs.DenotedValues.{val_of};
 
 use wasm_tree::{ConstExpr, RefType, ValType};
 

@@ -2,11 +2,11 @@
 use Rattle.base_lists.proofs.Common.{◌≡◌, ℕ, suc, List, Bool, ◌∙◌, refl, sym, subst}
 use Rattle.wasm_tree_spec.specs.Prelude.{Space, Module}
 use Rattle.wasm_meaning.specs.Prelude.{Entry}
-use Rattle.index_remap.specs.Prelude.{KnownSteps, none_left, known_step}
+use Rattle.run_simulation.specs.Prelude.{KnownSteps, none_left, known_step}
 use Rattle.eval_spec.specs.Prelude.{State, Stage, Going, Stopped, Finished, ComesTo, here, on, quiet_step, own_inst}
-use Rattle.eval_proof.specs.Known.{RelatesAllButImports, FramesOf, FuncsOf, EndsAsTheMachine, QuietCallsAreKnown}
-use Rattle.eval_proof.proofs.Frames.{step_keeps}
-use Rattle.eval_proof.proofs.Quiet.{goes_on_quietly, finishes_quietly}
+use Rattle.eval_proof.specs.KnownQuietSteps.{RelatesAllButImports, FramesOf, FuncsOf, EndsAsTheMachine, QuietCallsAreKnown}
+use Rattle.eval_proof.proofs.FrameInstances.{step_keeps}
+use Rattle.eval_proof.proofs.QuietSteps.{goes_on_quietly, finishes_quietly}
 use Rattle.eval_proof.proofs.KnownSteps as steps
 
 module _ (m : Module) (of named : Space → ℕ → ℕ → Bool) (all : RelatesAllButImports m of named) where

@@ -4,13 +4,13 @@ use Rattle.base_lists.proofs.Every.{every_with}
 use Rattle.std.proofs.lemmas.Bool.{true≢false}
 use Rattle.wasm_tree_spec.specs.Prelude.{Space, Types, Functions, Tables, Memories, Globals, ElementSegments, DataSegments, Operand, Instr, out-Instr, Module, same_space, operands}
 use Rattle.wasm_meaning.specs.Prelude.{Inst, Val, Level, Store, Entry, Running, Mark, Opening, Waiting, Ended, Growing}
-use Rattle.index_remap.specs.Prelude.{Pairing, NextKnown, TopKnown, TopSkips, passed, EntriesKnown, StepReadsKnown, KnownSteps, none_left, known_step}
-use Rattle.index_remap.proofs.StepsAgree.{none_called}
+use Rattle.run_simulation.specs.Prelude.{Pairing, NextKnown, TopKnown, TopSkips, passed, EntriesKnown, StepReadsKnown, KnownSteps, none_left, known_step}
+use Rattle.run_simulation.proofs.StepsAgree.{none_called}
 use Rattle.eval_spec.specs.Prelude.{State, Stage, Going, Stopped, Finished, first_held, is_imported, is_unknown_import, tests, ComesTo, here, on, quiet_step, own_inst}
-use Rattle.eval_proof.specs.Known.{RelatesAllButImports, FramesOf, FuncsOf, QuietStepsAreKnown}
-use Rattle.eval_proof.proofs.Operands.{address_at, Known, op_known}
-use Rattle.eval_proof.proofs.Frames.{step_keeps}
-use Rattle.eval_proof.proofs.Quiet.{neither, every_false, UsesKnownIn, UsesKnown, uses_known, reads_levels, goes_on_quietly}
+use Rattle.eval_proof.specs.KnownQuietSteps.{RelatesAllButImports, FramesOf, FuncsOf, QuietStepsAreKnown}
+use Rattle.eval_proof.proofs.OperandAddresses.{address_at, Known, op_known}
+use Rattle.eval_proof.proofs.FrameInstances.{step_keeps}
+use Rattle.eval_proof.proofs.QuietSteps.{neither, every_false, UsesKnownIn, UsesKnown, uses_known, reads_levels, goes_on_quietly}
 
 -- Each index is its own address.
 own_address : (m : Module) (k : Space) (n a : ℕ) → address_at (own_inst m) k n ≡ Some a → a ≡ n

@@ -1,6 +1,8 @@
-pub mod Laws
-pub mod Known
+pub mod EndsAndCounts
+pub mod KnownQuietSteps
 pub mod Budgets
-pub mod Machines
-pub mod Alone
+pub mod QuietInstantiations
+pub mod UnrelatedPlaces
 pub mod QuietCalls
+pub mod GlobalValues
+pub mod ImportedFunctions

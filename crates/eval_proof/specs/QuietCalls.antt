@@ -2,11 +2,11 @@
 use Rattle.std.specs.Prelude.{◌≡◌, ℕ, Bool, List, []}
 use Rattle.wasm_tree_spec.specs.Prelude.{Space, Module}
 use Rattle.wasm_meaning.specs.Prelude.{Gives, Val, Store, Entry, EndsCall, step}
-use Rattle.index_remap.specs.Prelude.{Pairing, OneToOneWhereWritten, ListRel, EntryRel, passed, StoreRelOff}
-use Rattle.index_remap.specs.Unknown.{GoesOn}
+use Rattle.run_simulation.specs.Prelude.{Pairing, OneToOneWhereWritten, ListRel, EntryRel, passed, StoreRelOff}
+use Rattle.run_simulation.specs.UnknownPlaces.{GoesOn}
 use Rattle.eval_spec.specs.Prelude.{State, Going, Finished, ComesTo, own_inst}
-use Rattle.eval_proof.specs.Known.{RelatesAllButImports, FramesOf, FuncsOf}
-use Rattle.eval_proof.specs.Alone.{LeavesAlone}
+use Rattle.eval_proof.specs.KnownQuietSteps.{RelatesAllButImports, FramesOf, FuncsOf}
+use Rattle.eval_proof.specs.UnrelatedPlaces.{LeavesAlone}
 
 -- From this store and these entries, steps that go on, and one that ends the call, lead to a store
 -- that is related except for what is unknown after the quiet call.

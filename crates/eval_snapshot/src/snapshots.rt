@@ -2,20 +2,18 @@ ghost use Rattle.std.specs.Prelude.{◌≡◌, ◌⊎◌, ◌<◌, ◌^◌, Some
 ghost use Rattle.wasm_tree.specs.Bounds.{IsBounded};
 ghost use Rattle.wasm_valid.specs.Validity.{IsValid};
 ghost use Rattle.module_limits.specs.Counts as counts;
-ghost use Rattle.eval_numbers_proof.specs.Ranges.{BeginsInRange};
+ghost use Rattle.eval_snapshot_proof.specs.Ranges.{BeginsInRange};
 ghost use Rattle.eval_machine.specs.Kept.{MachineFits, state_in};
 ghost use Rattle.eval_snapshot_spec.specs.Snapshot as spec;
 ghost use Rattle.eval_snapshot_spec.specs.After.{IsAfter};
-ghost use Rattle.eval_behaves_proof.specs.Laws.{ObservationallyEquivalent};
+ghost use Rattle.eval_snapshot_proof.specs.EquivalenceLaws.{ObservationallyEquivalent};
 ghost use Rattle.eval_snapshot.specs.Outcome.{SnapshotGives, first_counts as first_counts_of};
 ghost use Rattle.eval_snapshot.specs.declared.faults.SnapshotFault.TheVariants.{NoMemory as OutOfMemory, TooMany as OverLimit};
 
 use crate::faults::SnapshotFault;
 use crate::tree::tree;
-use eval_behaves_proof::snapshot_equivalent;
 use eval_machine::Machine;
-use eval_snapshot_proof::snapshots_are_valid;
-use eval_suits_proof::evaluated_states_suit;
+use eval_snapshot_proof::{evaluated_states_suit, snapshot_equivalent, snapshots_are_valid};
 use index_remap::declare_refs;
 use module_limits::over_limit;
 use std::alloc::Global;

@@ -1,3 +1,64 @@
-pub mod Typed
-pub mod Trees
-pub mod Whole
+pub mod TypedCode
+pub mod SnapshotItems
+pub mod ValidSnapshots
+mod GlobalConstants
+mod EmptyType
+pub mod CallsInOrder
+mod IntegerOperations
+mod ElementsOfLists
+mod ValuesOnStacks
+mod NumbersInSteps
+mod InstantiatedNumbers
+mod EvaluatedNumbers
+mod LoadedNumbers
+mod EncodedTrees
+mod SnapshotNumbers
+mod NegativeConstants
+mod SmallRuns
+mod WrongSnapshots
+mod ContentsSegments
+mod MemoryContents
+mod SnapshotMemory
+mod MachineCalls
+mod QuietCallEnds
+mod RelatedCalls
+mod RelatedCode
+mod QuietInstantiations
+mod IndexRelation
+mod RowsOfAddresses
+mod QuietRuns
+mod EqualTraces
+mod ConstantsOfValues
+mod UnchangedParts
+mod FittingSegments
+mod SharedAddresses
+mod SnapshotParts
+mod JoinedProperties
+mod RelatedInstances
+mod RelatedElementCopies
+mod QuietSegments
+mod RelatedDataCopies
+mod KnownGlobals
+mod SnapshotAllocation
+mod SnapshotInstantiation
+mod RelatedFunctions
+mod DefinedIndices
+mod RelatedGlobals
+mod RelatedMemories
+mod RelatedStores
+mod SnapshotCorrespondence
+mod EquivalentSnapshots
+mod EnvironmentFunctions
+mod NamedIndices
+mod AddedFunctions
+mod AddedFunctionLinks
+mod Counterparts
+mod AllocatedFunctions
+mod AllocatedStores
+mod OverwrittenLists
+mod UnknownSlots
+mod SegmentCopies
+mod RelatedSegments
+mod FilledStores
+mod InstantiatedStores
+mod QuietStarts

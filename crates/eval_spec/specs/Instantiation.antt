@@ -12,7 +12,7 @@ use Rattle.wasm_tree.specs.declared.module.DataMode.TheVariants as data'
 use Rattle.wasm_num.specs.Operations.{W32}
 use Rattle.wasm_meaning.specs.Prelude.{Outcome, Gives, Val, Inst, Func, Own, Table, Store, zero_of, num_of, Touched, Bytes, pair_of, Filled, PlacedSegment, segments_in, const_value, store_with}
 use Rattle.wasm_meaning.specs.Prelude.{joined_stores, run_elem_with, run_data_with}
-use Rattle.index_remap.specs.Prelude.{Unknowns, is_place_among}
+use Rattle.run_simulation.specs.Prelude.{Unknowns, is_place_among}
 use Rattle.block_pool.specs.Pages.{blank}
 use Rattle.eval_spec.specs.declared.stop.Stop.TheVariants as why
 use Rattle.eval_spec.specs.State.{State, Stage, Stopped, Finished, Test, tried}

@@ -3,5 +3,5 @@ pub mod Stops
 pub mod Quiet
 pub mod Instantiation
 pub mod Evaluation
-pub mod Told
+pub mod StateContents
 pub mod Prelude

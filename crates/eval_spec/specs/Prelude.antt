@@ -7,4 +7,4 @@ pub use Rattle.eval_spec.specs.Quiet.{ComesTo, after_steps, call_end, came_to, h
 pub use Rattle.eval_spec.specs.State.{Finished, Going, Stage, State, Stopped, Test, first_held, is_finished, is_going, left_behind, state_of, stop_of, stopped_or, tried}
 pub use Rattle.eval_spec.specs.Stops.{Beginning, any_in_row, beginning, calls_import, changes_table, frame_turns, further_turns, gives_nothing, grows, host_tests, instruction_tests, is_imported}
 pub use Rattle.eval_spec.specs.Stops.{is_unknown_import, opens, stack_depth, takes_and_gives_nothing, test, tests, tests_at, too_many_blocks, uses_unknown, writes_too_many, written_after}
-pub use Rattle.eval_spec.specs.Told.{constant, is_dropped, is_unknown_global, memory_bytes, value_of_global}
+pub use Rattle.eval_spec.specs.StateContents.{constant, is_dropped, is_unknown_global, memory_bytes, value_of_global}

@@ -4,7 +4,7 @@ use Rattle.std.specs.Prelude.{ℕ, zero, suc, ◌+◌, ◌-◌, ◌*◌, List, [
 use Rattle.wasm_tree_spec.specs.Prelude.{Instr, Module}
 use Rattle.wasm_tree.specs.declared.instr.Instr.TheOpen.{Instr-F}
 use Rattle.wasm_meaning.specs.Prelude.{Outcome, Gives, Val, Func, Entry, Mark, Env, Next, Ran, EndsCall, step, enter, touched_by}
-use Rattle.index_remap.specs.Prelude.{left_unknown}
+use Rattle.run_simulation.specs.Prelude.{left_unknown}
 use Rattle.eval_spec.specs.declared.stop.Stop.TheVariants as why
 use Rattle.eval_spec.specs.State.{State, Stage, Going, Stopped, Finished, tried}
 use Rattle.eval_spec.specs.Stops.{Beginning, beginning, frame_turns, further_turns, written_after, stack_depth, tests, host_tests}

@@ -1,7 +1,7 @@
 -- The state of an evaluation: a store in which some places are unknown, and what is left to spend.
 use Rattle.std.specs.Prelude.{ℕ, List, [], ◌∷◌, Bool, true, false, cond, Option, Some, None}
 use Rattle.wasm_meaning.specs.State.{Store, Entry}
-use Rattle.index_remap.specs.Unknown.{Unknowns}
+use Rattle.run_simulation.specs.UnknownPlaces.{Unknowns}
 use Rattle.eval_spec.specs.declared.stop.Stop.{Stop}
 
 -- The store is that of one module, in which each index is its own address, so that a function

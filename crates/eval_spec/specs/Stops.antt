@@ -10,7 +10,7 @@ use Rattle.wasm_tree.specs.declared.instr.Instr.TheOpen.{Instr-F}
 use Rattle.wasm_num.specs.Operations.{W32}
 use Rattle.wasm_meaning.specs.Prelude.{Outcome, Gives, RefVal, FuncRef, ExternRef, Val, Num, Inst, Func, Code, Table, Level, Entry, Running, Env, type_of_func, own_of, own_at, step, Touched, Bytes}
 use Rattle.wasm_meaning.specs.Prelude.{touched_by, imports_of}
-use Rattle.index_remap.specs.Prelude.{Unknowns, ReadPlace, ReadsNothing, ReadsGlobal, ReadsSlots, ReadsItems, read_by}
+use Rattle.run_simulation.specs.Prelude.{Unknowns, ReadPlace, ReadsNothing, ReadsGlobal, ReadsSlots, ReadsItems, read_by}
 use Rattle.block_pool.specs.Pages.{with_reached}
 use Rattle.eval_spec.specs.declared.limits.TheConstants.{MOST_DEPTH, MOST_BLOCKS}
 use Rattle.eval_spec.specs.declared.stop.Stop.{Stop}

@@ -11,7 +11,7 @@ use Rattle.index_remap.specs.declared.remap.Remap.{Remap}
 use Rattle.index_remap.specs.Prelude.{entry, new_type, renumbered, Keeps, OperandAgrees, LayerAgrees, labelled}
 use Rattle.index_remap.specs.Renumbered.{new_memarg}
 use Rattle.index_remap.specs.Agreement.{FuncAgrees, MemoryAgrees, DataAgrees}
-use Rattle.index_remap.proofs.Keeping.{keeps_signature, both_keeps, named_keeps, then_is}
+use Rattle.index_remap.proofs.PresentResults.{keeps_signature, both_keeps, named_keeps, then_is}
 use Rattle.base_lists.proofs.Bools.{and_keeps}
 
 -- An instruction without a body fits two stacks if its type leads from one to the other.

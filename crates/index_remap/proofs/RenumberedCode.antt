@@ -12,10 +12,11 @@ use Rattle.wasm_tree.specs.declared.instr.Instr.TheVariants as i
 use Rattle.wasm_meaning.specs.Prelude.{Inst}
 use Rattle.base_lists.specs.Every.{Every}
 use Rattle.index_remap.specs.declared.remap.Remap.{Remap}
-use Rattle.index_remap.specs.Related
-use Rattle.index_remap.specs.Prelude.{Pairing, BlockRel, empty, value, indexed, OpRel, CodeRel, end, then, instead, entry, new_type, renumbered, renumbered_all, EntryNames, LayerNames, Labels, Codes, CallReplaced, DenotesOne, RowReplaced, Replaced, is_opaque_call, OtherNamed, OthersNamed}
+use Rattle.run_simulation.specs.Related
+use Rattle.run_simulation.specs.Prelude.{Pairing, BlockRel, empty, value, indexed, OpRel, CodeRel, end, then, instead}
+use Rattle.index_remap.specs.Prelude.{entry, new_type, renumbered, renumbered_all, EntryNames, LayerNames, Labels, Codes, CallReplaced, DenotesOne, RowReplaced, Replaced, is_opaque_call, OtherNamed, OthersNamed}
 use Rattle.index_remap.specs.Prelude.{ReplacementCodesFit}
-use Rattle.index_remap.proofs.NotOpaque.{operands_follow, unlisted_renumbered}
+use Rattle.index_remap.proofs.UnreplacedCode.{operands_follow, unlisted_renumbered}
 
 module _ (R : Pairing) (m : Remap) (x y : Inst) where
   -- The instruction holds no other instructions.

@@ -12,8 +12,8 @@ use Rattle.index_remap.specs.Prelude.{new_type, renumbered, OperandAgrees, Layer
 use Rattle.base_lists.specs.Every.{Every}
 use Rattle.index_remap.specs.Replaced.{block_label, loop_label}
 use Rattle.index_remap.proofs.Instructions.{plain_kept, type_kept}
-use Rattle.index_remap.proofs.Keeping.{then_is}
-use Rattle.index_remap.proofs.Lower.{Lower, lower_self, lower_on, lower_match, match_lower, fits_lower, leads_lower, leads_over, leads_on}
+use Rattle.index_remap.proofs.PresentResults.{then_is}
+use Rattle.index_remap.proofs.UnknownOperands.{Lower, lower_self, lower_on, lower_match, match_lower, fits_lower, leads_lower, leads_over, leads_on}
 
 -- The type of a call is that of its function.
 call_type : (o : Option FuncType) (e : Effect) → gives_of (signature_in o) ≡ Some e → (t : FuncType) × (o ≡ Some t) × (Gives t.params t.results ≡ e)

@@ -6,7 +6,7 @@ use Rattle.wasm_tree.specs.declared.instr.Instr.TheOpen.{Instr-F}
 use Rattle.wasm_meaning.specs.Prelude.{Inst}
 use Rattle.index_remap.specs.declared.remap.Remap.{Remap}
 use Rattle.index_remap.specs.Renumbered.{entry}
-use Rattle.index_remap.specs.Related.{Pairing, AreIndicesRelated, SameType}
+use Rattle.run_simulation.specs.Related.{Pairing, AreIndicesRelated, SameType}
 
 -- The index and its entry denote addresses of the code relation, or equal types, or neither denotes
 -- anything.

@@ -1,14 +1,7 @@
 pub mod Renumbered
 pub mod References
-pub mod Related
-pub mod Groups
 pub mod CodeNames
-pub mod RelatedRuns
 pub mod Agreement
 pub mod Replaced
 pub mod Laws
-pub mod OpaqueRuns
-pub mod Trampolines
-pub mod Wider
-pub mod Unknown
 pub mod Prelude

@@ -14,7 +14,7 @@ use Rattle.wasm_meaning.specs.Prelude.{Inst}
 use Rattle.index_remap.specs.declared.remap.Remap.{Remap}
 use Rattle.index_remap.specs.Renumbered.{new_type, renumbered}
 use Rattle.index_remap.specs.CodeNames.{EntryNames}
-use Rattle.index_remap.specs.Related.{Pairing}
+use Rattle.run_simulation.specs.Related.{Pairing}
 use Rattle.index_remap.specs.Agreement.{LayerAgrees, func_type, labelled}
 
 -- ---- what replaces the instructions of a body ----

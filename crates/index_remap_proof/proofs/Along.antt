@@ -6,7 +6,7 @@ use Rattle.wasm_valid_bodies.specs.Typing.{Context, WellTyped}
 use Rattle.index_remap.specs.declared.remap.Remap.{Remap}
 use Rattle.index_remap.specs.Prelude.{renumbered_all, OperandAgrees, LayerAgrees, SameFrame, OthersAgree}
 use Rattle.index_remap.specs.Laws.{TypingIsKept, NotOpaqueAreRenumbered}
-use Rattle.index_remap.proofs.NotOpaque.{all_follow, operands_follow}
+use Rattle.index_remap.proofs.UnreplacedCode.{all_follow, operands_follow}
 use Rattle.index_remap_proof.specs.Indices.{Indices, LayerNamesOnly}
 use Rattle.index_remap_proof.specs.Along.{AgreesAlong}
 

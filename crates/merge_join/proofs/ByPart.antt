@@ -8,7 +8,7 @@ use Rattle.merge_spec.specs.declared.parts.Part as declared
 use Rattle.merge_spec.specs.Prelude.{named_module, named_modules, by_import, by_part_from, by_part}
 use Rattle.merge_spec.specs.Linked.{by_import_from}
 use Rattle.merge_join.specs.LinkedParts.{site, each_part}
-use Rattle.merge_valid_proof.proofs.ByPart.{by_part_flat}
+use Rattle.merge_proof.proofs.ListsByPart.{by_part_flat}
 
 pub named_length : (parts : List declared.Part) → length (named_modules parts) ≡ length parts
 named_length parts = length-map parts named_module

@@ -12,7 +12,7 @@ use Rattle.merge_join.specs.LinkedParts.{site}
 use Rattle.merge_join.specs.Spaces.{picked, sites_before, count_before}
 use Rattle.merge_join.proofs.ByPart.{named_length, part_more}
 use Rattle.merge_join.proofs.Sites.{sites_in_more, sites_split, staying_is}
-use Rattle.merge_valid_proof.proofs.ByPart.{by_part_is}
+use Rattle.merge_proof.proofs.ListsByPart.{by_part_is}
 
 -- ---- imports ----
 

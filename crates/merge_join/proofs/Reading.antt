@@ -15,8 +15,8 @@ use Rattle.merge_spec.specs.declared.links.Read.{Read}
 use Rattle.merge_spec.specs.Prelude.{named_modules, link_fault, read_entry, when_fixed, read_at, map_of, merged_read}
 use Rattle.merge_spec.specs.Linked.{read_at_desc}
 use Rattle.merge_spec.specs.Merged.{merged_const}
-use Rattle.merge_valid_proof.specs.Entries.{HasEntry}
-use Rattle.merge_valid_proof.specs.Joinable.{EachPart}
+use Rattle.merge_proof.specs.MapEntries.{HasEntry}
+use Rattle.merge_proof.specs.Joinable.{EachPart}
 use Rattle.merge_join.specs.declared.mapped_parts.MappedParts.{MappedParts}
 use Rattle.merge_join.specs.LinkedParts.{HaveTheirMaps, site}
 use Rattle.merge_join.specs.Reads.{AreReads, HasType}

@@ -24,7 +24,7 @@ use Rattle.merge_join.proofs.Reading.{becomes_new}
 use Rattle.wasm_tree.specs.OperandLaws.{MappedCodePasses, PassesInside}
 use Rattle.merge_join.proofs.RefOperands.{refs_kept}
 use Rattle.base_lists.proofs.Bools.{and_not}
-use Rattle.merge_valid_proof.proofs.ByPart.{by_part_has}
+use Rattle.merge_proof.proofs.ListsByPart.{by_part_has}
 
 -- ---- lists ----
 

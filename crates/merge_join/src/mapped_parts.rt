@@ -7,8 +7,8 @@ ghost use Rattle.merge_spec.specs.Merged.{map_of};
 ghost use Rattle.merge_join.specs.LinkedParts.{HaveTheirMaps};
 
 use index_remap::Remap;
+use merge_proof::maps_have_entries;
 use merge_spec::{Links, Part};
-use merge_valid_proof::maps_have_entries;
 
 /// Linked parts, with the map of each part's indices.
 #[derive(Drop)]

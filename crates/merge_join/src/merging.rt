@@ -4,20 +4,20 @@ ghost use Rattle.merge_spec.specs.Faults.{link_fault};
 ghost use Rattle.merge_spec.specs.Joined.{FewInAll, Joins};
 ghost use Rattle.merge_spec.specs.Linked.{AreLinks};
 ghost use Rattle.merge_spec.specs.Parts.{named_modules};
-ghost use Rattle.merge_behaves_proof.specs.Laws.{ObservationallyEquivalent};
+ghost use Rattle.merge_proof.specs.MergeEquivalence.{ObservationallyEquivalent};
 ghost use Rattle.merge_spec.specs.View.{linked_world};
-ghost use Rattle.world_sequential_proof.specs.Laws.{SequentialInstantiationEquivalent};
+ghost use Rattle.merge_proof.specs.SequentialEquivalence.{SequentialInstantiationEquivalent};
 
 use crate::linked::parts_hold;
 use crate::tree::joined_tree;
-use merge_behaves_proof::merged_module_equivalent;
 use merge_names::Mode;
+use merge_proof::{
+    merged_module_equivalent, merged_modules_are_valid, sequential_instantiation_equivalent,
+};
 use merge_spec::{JoinFault, Links, Part};
-use merge_valid_proof::merged_modules_are_valid;
 use std::alloc::Global;
 use wasm_bytes::Items;
 use wasm_valid::Valid;
-use world_sequential_proof::sequential_instantiation_equivalent;
 
 /// Joins linked parts into one module.
 ///

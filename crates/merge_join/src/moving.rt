@@ -11,8 +11,8 @@ ghost use Rattle.merge_join.specs.LinkedParts.{AreMaps, PartsHold};
 
 use crate::moved::rewrite_each;
 use index_remap::{Remap, renumber_funcs_in_place};
+use merge_proof::maps_have_entries;
 use merge_spec::Part;
-use merge_valid_proof::maps_have_entries;
 use std::alloc::Global;
 use std::mem;
 use wasm_bytes::{Items, NoMemory};

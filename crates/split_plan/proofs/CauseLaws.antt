@@ -10,7 +10,7 @@ use Rattle.split_plan.specs.declared.fault.PlanFault.{PlanFault}
 use Rattle.split_plan.specs.declared.fault.PlanFault.TheVariants.{NoSuchFunction, AmbiguousFunction, KeptAndSplit, NoMemory}
 use Rattle.split_plan.specs.declared.plans.Plan.{Plan}
 use Rattle.split_plan.specs.NamedFunctions.{entries_with_name, exported_among, function_of, word_fault, names_func}
-use Rattle.split_plan.specs.Plans.{kept_fault, words_of, plan_fault}
+use Rattle.split_plan.specs.PlannedMoves.{kept_fault, words_of, plan_fault}
 use Rattle.split_plan.specs.Causes.{NamesFunction, NamesNone, IsShared, IsNamedInKeep, PlanCause, FaultsHaveCauses, PlanFaultTold}
 
 option_or_twice : {A : Type 0} (a b c d : Option A) → d ≡ option_or b c → option_or a d ≡ option_or (option_or a b) c

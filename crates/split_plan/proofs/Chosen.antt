@@ -6,10 +6,10 @@ use Rattle.std.proofs.lemmas.List.Kept.{IsStrictlyIncreasing-filter}
 use Rattle.base_lists.specs.Places.{numbers}
 use Rattle.base_lists.specs.Every.{Every}
 use Rattle.wasm_tree_spec.specs.Prelude.{Func, Module, imported_funcs, funcs_of}
-use Rattle.split_plan.specs.Segments.{uses_segment}
+use Rattle.split_plan.specs.SegmentReferences.{uses_segment}
 use Rattle.split_plan.specs.declared.plans.Plan.{Plan}
 use Rattle.split_plan.specs.NamedFunctions.{is_defined}
-use Rattle.split_plan.specs.Plans.{body_uses_segment, defined_funcs, plan_for, IsPlan, WhatIsPlannedIsAPlan}
+use Rattle.split_plan.specs.PlannedMoves.{body_uses_segment, defined_funcs, plan_for, IsPlan, WhatIsPlannedIsAPlan}
 
 -- A step of the loop: one more number is tested, and kept if it passes.
 pub filter_more : (test : ℕ → Bool) (first at : ℕ) (b : Bool) (old new : List ℕ) → test (first + at) ≡ b → new ≡ old ++ cond b ((first + at) ∷ []) [] → old ≡ filter test (numbers first at) → new ≡ filter test (numbers first (at + 1))

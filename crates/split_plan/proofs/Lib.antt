@@ -1,8 +1,8 @@
 pub mod Walks
 pub mod Tables
 pub mod Firsts
-pub mod Marks
+pub mod WordMarks
 pub mod Chosen
 pub mod PlanLaws
-mod Rows
+mod SmallPlans
 pub mod CauseLaws

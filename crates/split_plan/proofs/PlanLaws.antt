@@ -11,8 +11,8 @@ use Rattle.split_plan.specs.declared.fault.PlanFault.{PlanFault}
 use Rattle.split_plan.specs.declared.fault.PlanFault.TheVariants.{NoMemory}
 use Rattle.split_plan.specs.declared.named.Named.{Named}
 use Rattle.split_plan.specs.NamedFunctions.{is_defined, is_defined_export, entries_with_name, exported_among, one_of, function_of, word_fault, names_func}
-use Rattle.split_plan.specs.Looking.{AreMarks, entry_of, func_in, fault_in, enters_func, has_wanted_mark}
-use Rattle.split_plan.specs.Plans.{kept_fault, words_of, plan_fault, is_wanted, plan_for, plan_of}
+use Rattle.split_plan.specs.NameTable.{AreMarks, entry_of, func_in, fault_in, enters_func, has_wanted_mark}
+use Rattle.split_plan.specs.PlannedMoves.{kept_fault, words_of, plan_fault, is_wanted, plan_for, plan_of}
 use Rattle.split_plan.proofs.Tables.{entered_func, entered_fault}
 use Rattle.split_plan.proofs.Chosen.{plan_alike}
 

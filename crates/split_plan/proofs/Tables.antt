@@ -7,7 +7,7 @@ use Rattle.wasm_names.specs.declared.func_name.FuncName.{FuncName}
 use Rattle.split_plan.specs.declared.named.Named.{Named}
 use Rattle.split_plan.specs.declared.named.Named.TheVariants.{Exported}
 use Rattle.split_plan.specs.NamedFunctions.{is_defined, is_defined_export, exported_among, entries_with_name, one_of, fault_of}
-use Rattle.split_plan.specs.Looking.{entered, once_more, func_in, fault_in}
+use Rattle.split_plan.specs.NameTable.{entered, once_more, func_in, fault_in}
 
 -- A function of the rest of a list from a place on, one step towards the front of the list.
 pub at_one_before : {A B : Type 0} (F : List A → B) (xs : List A) (at : ℕ) (x : A) → 0 < at → at ≤ length xs → x ≡ get_or xs (at - 1) x → F (drop (at - 1) xs) ≡ F (x ∷ drop at xs)

@@ -3,7 +3,7 @@ use Rattle.base_lists.proofs.Common.{◌≡◌, Bool, false, ◌||◌, List, ref
 use Rattle.wasm_tree_spec.specs.Prelude.{BlockType, Instr, Block, Loop, If, outs-Block, outs-Loop, outs-If, AnyInside, operands, block_operands, held}
 use Rattle.wasm_tree.specs.declared.types.BlockType.TheVariants as block
 use Rattle.wasm_tree.specs.declared.instr.Instr.TheOpen.{Instr-F}
-use Rattle.split_plan.specs.Segments.{names_segment, uses_segment_in, uses_segment}
+use Rattle.split_plan.specs.SegmentReferences.{names_segment, uses_segment_in, uses_segment}
 
 no_segment : (ty : BlockType) → list_any names_segment (block_operands ty) ≡ false
 no_segment block.Empty = refl

@@ -9,7 +9,7 @@ use Rattle.split_plan.specs.declared.fault.PlanFault.{PlanFault}
 use Rattle.split_plan.specs.declared.fault.PlanFault.TheVariants.{NoSuchFunction, AmbiguousFunction, KeptAndSplit, NoMemory}
 use Rattle.split_plan.specs.declared.plans.Plan.{Plan}
 use Rattle.split_plan.specs.NamedFunctions.{entries_with_name, exported_among, function_of, names_func}
-use Rattle.split_plan.specs.Plans.{words_of, plan_fault}
+use Rattle.split_plan.specs.PlannedMoves.{words_of, plan_fault}
 
 -- the word is in the list and is faulty, and all words before it are right
 abbrev pub IsFirst : (List ℕ → Type 0) → (List ℕ → Type 0) → List (List ℕ) → List ℕ → Type 0

@@ -1,5 +1,5 @@
-pub mod Segments
+pub mod SegmentReferences
 pub mod NamedFunctions
-pub mod Plans
-pub mod Looking
+pub mod PlannedMoves
+pub mod NameTable
 pub mod Causes

@@ -2,9 +2,9 @@
 
 ghost use Rattle.std.specs.Prelude.{◌≡◌, ◌<◌, ◌^◌, ◌&&◌, [], ◌∷◌, ◌++◌, cond, length, not, IfOk, OnOk};
 ghost use Rattle.wasm_tree.specs.Spaces.{funcs_of};
-ghost use Rattle.split_plan.specs.Segments.{uses_segment};
-ghost use Rattle.split_plan.specs.Plans.{plan_for};
-ghost use Rattle.split_plan.specs.Looking.{has_mark};
+ghost use Rattle.split_plan.specs.SegmentReferences.{uses_segment};
+ghost use Rattle.split_plan.specs.PlannedMoves.{plan_for};
+ghost use Rattle.split_plan.specs.NameTable.{has_mark};
 
 use crate::plans::Plan;
 use crate::segments::uses_segments;

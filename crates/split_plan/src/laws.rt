@@ -1,5 +1,5 @@
 ghost use Rattle.split_plan.specs.Causes.{FaultsHaveCauses};
-ghost use Rattle.split_plan.specs.Plans.{WhatIsPlannedIsAPlan};
+ghost use Rattle.split_plan.specs.PlannedMoves.{WhatIsPlannedIsAPlan};
 
 /// Proves that `plan_fault` gives a fault exactly if the cause of that fault holds.
 pub fn plan_faults_have_causes()

@@ -2,9 +2,9 @@
 
 ghost use Rattle.std.specs.Prelude.{◌≡◌, ℕ, ◌⊎◌, None, Some, map, slice_get, unwrap_or, length, true, false, IfOk, IfErr, IsOk};
 ghost use Rattle.split_plan.specs.declared.fault.PlanFault.TheVariants.{NoMemory as OutOfMemory};
-ghost use Rattle.split_plan.specs.Looking.{AreMarks, fault_in, func_in, held_of};
+ghost use Rattle.split_plan.specs.NameTable.{AreMarks, fault_in, func_in, held_of};
 ghost use Rattle.base_lists.specs.Options.{first_given};
-ghost use Rattle.split_plan.specs.Plans.{kept_fault};
+ghost use Rattle.split_plan.specs.PlannedMoves.{kept_fault};
 
 use crate::fault::PlanFault;
 use crate::named::Named;

@@ -6,7 +6,7 @@ ghost use Rattle.wasm_tree.specs.Spaces.{imported_funcs, funcs_of, index_of_expo
 ghost use Rattle.wasm_tree.specs.Operands.{same_space};
 ghost use Rattle.wasm_tree.specs.declared.space.Space.TheVariants.{Functions};
 ghost use Rattle.split_plan.specs.NamedFunctions.{exported_among};
-ghost use Rattle.split_plan.specs.Looking.{entry_of, held_of, func_in, once_more};
+ghost use Rattle.split_plan.specs.NameTable.{entry_of, held_of, func_in, once_more};
 ghost use Rattle.split_plan.specs.declared.named.Named.TheVariants.{Exported as IsExported};
 
 use std::alloc::Global;

@@ -4,8 +4,8 @@ ghost use Rattle.split_plan.specs.declared.fault.PlanFault.{PlanFault as SomeFau
 ghost use Rattle.split_plan.specs.declared.fault.PlanFault.TheVariants.{NoMemory as OutOfMemory};
 ghost use Rattle.wasm_tree.specs.Spaces.{funcs_of};
 ghost use Rattle.split_plan.specs.Causes.{PlanCause, PlanFaultTold};
-ghost use Rattle.split_plan.specs.Looking.{has_wanted_mark};
-ghost use Rattle.split_plan.specs.Plans.{IsPlan, plan_fault, plan_for, plan_of, words_of};
+ghost use Rattle.split_plan.specs.NameTable.{has_wanted_mark};
+ghost use Rattle.split_plan.specs.PlannedMoves.{IsPlan, plan_fault, plan_for, plan_of, words_of};
 
 use crate::choosing::choose;
 use crate::fault::PlanFault;

@@ -1,7 +1,7 @@
 // Code that names segments.
 
 ghost use Rattle.std.specs.Prelude.{◌≡◌};
-ghost use Rattle.split_plan.specs.Segments.{uses_segment, uses_segment_in};
+ghost use Rattle.split_plan.specs.SegmentReferences.{uses_segment, uses_segment_in};
 
 use wasm_tree::{Instr, operands_pass_layer_by_layer};
 

@@ -4,10 +4,10 @@ use Rattle.base_lists.proofs.Common.{◌≡◌, ◌∙◌, ap, ap₂, sym, refl,
 use Rattle.wasm_tree_spec.specs.Prelude.{BlockType, ValType, Instr, fold_out-Instr, map-Instr, Row_of-Instr, items-the_row-Instr, end_of-Instr, more_of-Instr, Block, Block', Loop, Loop', If, If', Call, CallIndirect, I32Const, LocalGet, outs-Block, outs-Loop, outs-If, Module}
 use Rattle.wasm_tree.specs.declared.instr.Instr.{out-Instr}
 use Rattle.wasm_tree.specs.declared.instr.Instr.TheOpen.{Instr-F}
-use Rattle.index_remap.specs.Prelude.{gets, slot_call}
+use Rattle.run_simulation.specs.Prelude.{gets, slot_call}
 use Rattle.wasm_write_proof.specs.Ranges.{small, number_step, numbers_in, all_numbers_in}
 use Rattle.split_spec.specs.Prelude.{calls_in, calls_step, with_calls, call_by_slot, call_through_slot, params_of, place_among, slot_table, trampoline_body, type_index}
-use Rattle.split_proof.proofs.Blocks.{block_calls, block_layer, if_calls, if_layer, loop_calls, loop_layer}
+use Rattle.split_proof.proofs.ReplacedBlocks.{block_calls, block_layer, if_calls, if_layer, loop_calls, loop_layer}
 
 -- ---- what a block holds ----
 

@@ -1,62 +1,62 @@
-pub mod Blocks
-pub mod Replacing
-pub mod Operands
-pub mod Typed
-pub mod Bodies
-pub mod Spaces
+pub mod ReplacedBlocks
+pub mod RenumberedReplacements
+pub mod OperandTests
+pub mod CallTypes
+pub mod WellTypedBodies
+pub mod DescribedSpaces
 pub mod SecondarySpaces
 pub mod SecondaryItems
 pub mod PrimarySpaces
 pub mod SlotCalls
 pub mod PrimaryItems
-pub mod Names
-pub mod SharedFuncs
+pub mod AddedExportNames
+pub mod SharedFunctions
 pub mod PrimaryExports
-pub mod Bounds
-pub mod PassedCalls
-pub mod Fits
-pub mod SecondaryFits
-pub mod PrimaryFits
-pub mod Whole
-mod Rows
-mod Counts
+pub mod CountBounds
+pub mod OperandsAfterReplacement
+pub mod MapEntries
+pub mod SecondaryMapEntries
+pub mod PrimaryMapEntries
+pub mod ValidModules
+mod LawExamples
+mod ModuleCounts
 pub mod CallsInRange
 pub mod NamesInRange
-pub mod SharedInRange
+pub mod SlotTableInRange
 pub mod PrimaryInRange
 pub mod SecondaryInRange
-mod RangeRows
-pub mod Partners
-pub mod Placeholders
-pub mod Entries
+mod RangeExamples
+pub mod AddressPartners
+pub mod PlaceholderImports
+pub mod IndexEntries
 pub mod RelatedBodies
-pub mod BeginRelated
-pub mod Linked
-pub mod Begins
-pub mod BeginFuncs
-pub mod BeginSlots
-pub mod BeginStates
-pub mod Plain
-pub mod Stuttering
-pub mod OwnSlots
-pub mod Entered
-pub mod Steps
+pub mod InitialDefinitions
+pub mod PrimaryLinking
+pub mod InstantiatedSplits
+pub mod InitialFunctions
+pub mod InitialSlots
+pub mod InitialStates
+pub mod StoresWithoutPlaceholders
+pub mod StutteringRuns
+pub mod SecondarySlots
+pub mod EnteredFunctions
+pub mod AnsweredSteps
 pub mod SplitRuns
 mod SmallRuns
 mod WrongSplits
-mod LoadExports
-mod LoadImports
-mod LoadNames
-mod LoadLinks
-mod AlwaysLoads
-mod LoadCode
-mod LoadKeeps
-mod InstancesRelated
+mod ExportsForSecondary
+mod MatchingImports
+mod SecondaryInstances
+mod SecondaryLinking
+mod LoadsInRuns
+mod LoadedFunctionCode
+mod StoresAfterLoads
+mod RelatedInstances
 mod MovedCalls
-mod Settled
-mod Arrived
-mod Enters
+mod StatesAfterLoads
+mod StatesAfterMovedCalls
+mod TrampolineSteps
 mod ReplacedCalls
-mod Same
-mod PremisesHold
-pub mod Pairs
+mod SplitEquivalence
+mod PremiseExamples
+pub mod PairsAsSplits

@@ -8,22 +8,22 @@ use Rattle.wasm_meaning.specs.Prelude.{Outcome, Gives, Traps, IllTyped, bind, or
 use Rattle.wasm_meaning.specs.Prelude.{step_code, step_levels, act, frame_of, enter_at, perform, step, to_mark, same_text, Shown, func_of, look_up, received_all, Run, Move, Transition, Steps, Makes, Phase, Closed, InstanceTrapped, BadMove, trapped_to, made, called, moved, at_entries, or_bad}
 use Rattle.wasm_meaning.specs.Prelude.{next_move, nothing_in, started, or_closed, in_phase, transition_at, transition}
 use Rattle.wasm_meaning.specs.Run as run
-use Rattle.index_remap.specs.Prelude.{Pairing, OneToOne, OptRel, none, some, ResRel, done, trap, wrong, BothRel, both, ListRel, nil, cons, ValRel, CodeRel, end, then, instead, StoreRel, LevelRel, FrameRel, BodyRel, calls, NotOpaque, PhaseRel, fresh, pending, opened, closed, IsBegun, passed_with}
-use Rattle.index_remap.specs.Prelude.{MoveSkips, NextMoveSkips, TickSkips, calls_placeholder, WithPassing, FramesBetween, HaveTypes, at_code, none_unknown, RefsOff, StoreRelOff, ActOff}
-use Rattle.index_remap.specs.Related as to
-use Rattle.index_remap.specs.Trampolines as with_frames
-use Rattle.index_remap.specs.Groups.{group_of}
-use Rattle.index_remap.proofs.Rel.{written}
+use Rattle.run_simulation.specs.Prelude.{Pairing, OneToOne, OptRel, none, some, ResRel, done, trap, wrong, BothRel, both, ListRel, nil, cons, ValRel, CodeRel, end, then, instead, StoreRel, LevelRel, FrameRel, BodyRel, calls, NotOpaque, PhaseRel, fresh, pending, opened, closed, IsBegun, passed_with}
+use Rattle.run_simulation.specs.Prelude.{MoveSkips, NextMoveSkips, TickSkips, calls_placeholder, WithPassing, FramesBetween, HaveTypes, at_code, none_unknown, RefsOff, StoreRelOff, ActOff}
+use Rattle.run_simulation.specs.Related as to
+use Rattle.run_simulation.specs.Trampolines as with_frames
+use Rattle.run_simulation.specs.Groups.{group_of}
+use Rattle.run_simulation.proofs.RelatedOutcomes.{written}
 use Rattle.base_lists.specs.Related.{PairRel}
-use Rattle.index_remap.proofs.ValueSteps.{pop_typed_rel}
-use Rattle.index_remap.proofs.Known.{op_known}
-use Rattle.index_remap.proofs.StepsAgree.{frame_rel, left_rel, each_group}
-use Rattle.index_remap.proofs.FramesBetween.{frames as top_frames, again, between}
-use Rattle.index_remap.specs.Trampolines.{PassedValuesHaveTypes, PoppedValuesHaveTypes}
-use Rattle.split_proof.specs.Begins.{RunsRelated}
+use Rattle.run_simulation.proofs.ValueSteps.{pop_typed_rel}
+use Rattle.run_simulation.proofs.KnownNames.{op_known}
+use Rattle.run_simulation.proofs.StepsAgree.{frame_rel, left_rel, each_group}
+use Rattle.run_simulation.proofs.FramesBetween.{frames as top_frames, again, between}
+use Rattle.run_simulation.specs.Trampolines.{PassedValuesHaveTypes, PoppedValuesHaveTypes}
+use Rattle.split_proof.specs.SplitInstantiation.{RunsRelated}
 use Rattle.split_proof.specs.MovedCalls.{EntersInBoth, ReplacementCode, NoCallBegins, StepsCallMovedTogether, skips, enters, EveryStepCallsMovedTogether}
 use Rattle.split_proof.specs.MovedCalls as way
-use Rattle.index_remap.proofs.Received.{look_rel, func_of_rel, received_all_rel}
+use Rattle.run_simulation.proofs.PassedValues.{look_rel, func_of_rel, received_all_rel}
 
 -- ---- what calls ----
 

@@ -14,11 +14,11 @@ use Rattle.index_remap.specs.declared.remap.Remap.{Remap}
 use Rattle.index_remap.specs.Prelude.{new_export, new_export_desc}
 use Rattle.index_remap_proof.specs.Trees.{TreesAgree}
 use Rattle.split_spec.specs.Prelude.{defined_at, slot_table, entities, exports_for_secondary, from_primary, is_from_primary, marks_from_primary, name_from_primary, slots_name, added_exports, is_left, prefix_taken}
-use Rattle.split_spec.specs.Faults.{name_taken}
+use Rattle.split_spec.specs.FaultOrder.{name_taken}
 use Rattle.split_proof.specs.Premises.{CanMove}
-use Rattle.split_proof.proofs.Names.{Distinct, HasLetter, distinct_append, letters_apart, named, named_distinct, named_letter}
+use Rattle.split_proof.proofs.AddedExportNames.{Distinct, HasLetter, distinct_append, letters_apart, named, named_distinct, named_letter}
 use Rattle.split_proof.proofs.PrimarySpaces as spaces
-use Rattle.split_proof.proofs.SharedFuncs.{shared_left, shared_within}
+use Rattle.split_proof.proofs.SharedFunctions.{shared_left, shared_within}
 
 -- No export has one of the names where none of these is taken.
 none_taken : (m : Module) (names : List (List ℕ)) → name_taken m names ≡ None → (i j : ℕ) (x : List ℕ) → slice_get names i ≡ Some x → slice_get (map (λ e. e.name) m.exports) j ≡ Some x → ⊥

@@ -10,14 +10,14 @@ use Rattle.wasm_tree.specs.declared.module.ExportDesc.TheVariants as ex
 use Rattle.module_limits.specs.Counts.{CountsAreWithinWhereNoneIsOver, over_limit}
 use Rattle.index_remap.specs.Prelude.{renumbered_tree}
 use Rattle.wasm_write_proof.specs.Ranges.{InRange, LimitsInRange}
-use Rattle.merge_encode_proof.specs.Numbers.{ElemNumbersInRange, FuncNumbersInRange, ImportNumbersInRange, NumbersInRange}
+use Rattle.wasm_valid_proof.specs.Numbers.{ElemNumbersInRange, FuncNumbersInRange, ImportNumbersInRange, NumbersInRange}
 use Rattle.split_spec.specs.Prelude.{call_through_slot, in_slots, params_of, place_among, slot_segment, slot_table, slot_table_type, exports_for_secondary, from_primary, name_from_primary, added_exports, left_marks, placeholder_imports, primary_func, primary_funcs, primary_map, primary_tree}
 use Rattle.split_spec.specs.Primary.{primary_with}
-use Rattle.split_proof.proofs.Counts.{imports_many}
-use Rattle.split_proof.proofs.SharedFuncs.{shared_within}
+use Rattle.split_proof.proofs.ModuleCounts.{imports_many}
+use Rattle.split_proof.proofs.SharedFunctions.{shared_within}
 use Rattle.split_proof.proofs.CallsInRange.{calls_numbers, slot_below, through_slot_numbers, trampoline_numbers}
 use Rattle.split_proof.proofs.NamesInRange.{decimal_in, name_in, slots_name_in}
-use Rattle.split_proof.proofs.SharedInRange.{NumberLaws, entities_few, slot_limits_in, slots_from}
+use Rattle.split_proof.proofs.SlotTableInRange.{NumberLaws, entities_few, slot_limits_in, slots_from}
 
 -- ---- parameters ----
 

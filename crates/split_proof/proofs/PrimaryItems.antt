@@ -20,17 +20,18 @@ use Rattle.wasm_valid.specs.declared.kinds.ItemKind.{ItemKind}
 use Rattle.wasm_valid.specs.declared.kinds.ItemKind.TheVariants as kind
 use Rattle.wasm_valid.specs.Prelude.{const_type, const_func, elem_refs, export_refs, global_refs, named_of, refs_of, DataModeHolds, ElemModeHolds, HoldsAt, ImportHolds, LimitsHold, body_context, count_of, start_count, ItemsHold}
 use Rattle.index_remap.specs.declared.remap.Remap.{Remap}
-use Rattle.index_remap.specs.Prelude.{OperandAgrees, body_refs, new_const, new_data, new_data_mode, new_elem, new_elem_mode, new_func, new_global, new_start, renumbered_all, gets, slot_call}
+use Rattle.run_simulation.specs.Prelude.{gets, slot_call}
+use Rattle.index_remap.specs.Prelude.{OperandAgrees, body_refs, new_const, new_data, new_data_mode, new_elem, new_elem_mode, new_func, new_global, new_start, renumbered_all}
 use Rattle.index_remap_proof.specs.ButForReferences.{HoldsButForReferences, any_named}
 use Rattle.index_remap_proof.specs.Trees.{TreesAgree}
 use Rattle.split_spec.specs.Prelude.{call_by_slot, call_through_slot, in_slots, params_of, place_among, slot_segment, slot_table, slot_table_type, trampoline_body, type_index, is_needed, is_left, left_marks, primary_func, primary_funcs}
-use Rattle.split_spec.specs.Needed.{named_other_than_by_calls}
+use Rattle.split_spec.specs.TrampolineNeeds.{named_other_than_by_calls}
 use Rattle.split_proof.specs.Premises.{CanMove}
-use Rattle.split_proof.proofs.Bodies.{BodyLaws, CodeIsTyped, body_typed, entry_agrees}
+use Rattle.split_proof.proofs.WellTypedBodies.{BodyLaws, CodeIsTyped, body_typed, entry_agrees}
 use Rattle.split_proof.proofs.PrimarySpaces as spaces
 use Rattle.split_proof.proofs.SlotCalls.{slot_typed, slots_new, through_slot_typed, type_new}
-use Rattle.split_proof.proofs.Spaces.{func_holds, table_holds}
-use Rattle.split_proof.proofs.Typed.{trampoline_renumbered, trampoline_typed}
+use Rattle.split_proof.proofs.DescribedSpaces.{func_holds, table_holds}
+use Rattle.split_proof.proofs.CallTypes.{trampoline_renumbered, trampoline_typed}
 
 module _ (laws : BodyLaws) (namespace : ℕ → List ℕ) (prefix : List ℕ) (m : Module) (holds : ItemsHold m) (moved : List ℕ) (can : CanMove m moved) where
   abbrev map_of : Remap

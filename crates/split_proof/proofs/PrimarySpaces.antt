@@ -19,10 +19,10 @@ use Rattle.index_remap.specs.Prelude.{new_data, new_elem, new_func, new_global, 
 use Rattle.index_remap_proof.specs.Indices.{Indices}
 use Rattle.index_remap_proof.specs.Trees.{TreesAgree}
 use Rattle.split_plan.specs.NamedFunctions.{is_defined}
-use Rattle.split_plan.specs.Plans.{body_uses_segment}
+use Rattle.split_plan.specs.PlannedMoves.{body_uses_segment}
 use Rattle.split_spec.specs.Prelude.{in_slots, place_among, slot_segment, slot_table, slot_table_type, type_index, is_needed, is_left, left_marks, placeholder_imports, primary_func, primary_funcs, primary_map, primary_tree}
 use Rattle.split_proof.specs.Premises.{CanMove}
-use Rattle.split_proof.proofs.Spaces.{Moves, moves, func_holds, import_holds, type_there}
+use Rattle.split_proof.proofs.DescribedSpaces.{Moves, moves, func_holds, import_holds, type_there}
 
 module _ (namespace : ℕ → List ℕ) (prefix : List ℕ) (m : Module) (holds : ItemsHold m) (moved : List ℕ) (can : CanMove m moved) where
   abbrev pub r : Remap

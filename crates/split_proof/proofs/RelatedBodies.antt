@@ -15,27 +15,28 @@ use Rattle.wasm_valid.specs.Prelude.{refs_of, ItemsHold}
 use Rattle.wasm_meaning.specs.Prelude.{Inst, Environment, own_count, imports_of}
 use Rattle.index_remap.specs.declared.remap.Remap.{Remap}
 use Rattle.index_remap_proof.specs.Indices.{Indices}
-use Rattle.index_remap.specs.Prelude.{body_refs, refs_all, Pairing, CodeRel, has_entry, new_func, renumbered_all, ReplacementCodesFit, OtherNamed, OthersNamed, is_opaque_call, slot_call}
-use Rattle.index_remap.proofs.NotOpaque.{operands_follow}
+use Rattle.run_simulation.specs.Prelude.{Pairing, CodeRel, slot_call}
+use Rattle.index_remap.specs.Prelude.{body_refs, refs_all, has_entry, new_func, renumbered_all, ReplacementCodesFit, OtherNamed, OthersNamed, is_opaque_call}
+use Rattle.index_remap.proofs.UnreplacedCode.{operands_follow}
 use Rattle.world_simulation.specs.Prelude.{one, FuncsAt, EntriesName, IsInst}
-use Rattle.world_simulation.specs.Definitions.{alike, set_apart}
-use Rattle.world_simulation.proofs.Single.{space_at}
-use Rattle.split_plan.specs.Plans.{body_uses_segment}
+use Rattle.world_simulation.specs.CorrespondingDefinitions.{alike, set_apart}
+use Rattle.world_simulation.proofs.OneModuleWorlds.{space_at}
+use Rattle.split_plan.specs.PlannedMoves.{body_uses_segment}
 use Rattle.split_plan.specs.NamedFunctions.{is_defined}
 use Rattle.split_spec.specs.declared.names.SplitNames.{SplitNames}
 use Rattle.split_spec.specs.Prelude.{with_calls, is_named_from_primary, is_needed, primary_func, call_by_slot, call_through_slot, place_among, slot_table, slot_table_type, type_index}
-use Rattle.split_proof.specs.Calls.{renumbered_codes}
-use Rattle.split_proof.proofs.Fits.{body_exact}
-use Rattle.split_proof.proofs.Operands.{Met, all_wanted}
+use Rattle.split_proof.specs.RenumberedCalls.{renumbered_codes}
+use Rattle.split_proof.proofs.MapEntries.{body_exact}
+use Rattle.split_proof.proofs.OperandTests.{Met, all_wanted}
 use Rattle.split_proof.proofs.PrimarySpaces as spaces
-use Rattle.split_proof.proofs.SharedFuncs.{ref_named}
-use Rattle.split_proof.proofs.Spaces.{func_holds}
-use Rattle.split_proof.proofs.Typed.{slot_call_renumbered}
-use Rattle.split_proof.specs.Worlds.{type_in}
+use Rattle.split_proof.proofs.SharedFunctions.{ref_named}
+use Rattle.split_proof.proofs.DescribedSpaces.{func_holds}
+use Rattle.split_proof.proofs.CallTypes.{slot_call_renumbered}
+use Rattle.split_proof.specs.SplitWorlds.{type_in}
 use Rattle.split_proof.specs.Addresses.{defined_address, is_partner, may_stand, moved_addresses, slot_table_address, split_pairing}
-use Rattle.split_proof.specs.Laws.{CanBeSplit}
-use Rattle.split_proof.proofs.Placeholders.{moved_few, moved_typed, slot_stays}
-use Rattle.split_proof.proofs.Entries.{Laws, O, P, Q, defined_there, entries, holds, k, old, own, r, stay, tables_are, types_are}
+use Rattle.split_proof.specs.SplitLaws.{CanBeSplit}
+use Rattle.split_proof.proofs.PlaceholderImports.{moved_few, moved_typed, slot_stays}
+use Rattle.split_proof.proofs.IndexEntries.{Laws, O, P, Q, defined_there, entries, holds, k, old, own, r, stay, tables_are, types_are}
 
 -- The place of an element is the same after an injective function is applied to the list.
 place_mapped : (f : ℕ → ℕ) (x : ℕ) (xs : List ℕ) (from : ℕ) → ((p y : ℕ) → slice_get xs p ≡ Some y → f x ≡ f y → x ≡ y) → first_place (nat_eq (f x)) (map f xs) from ≡ first_place (nat_eq x) xs from

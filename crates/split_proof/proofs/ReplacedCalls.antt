@@ -8,29 +8,29 @@ use Rattle.wasm_tree_spec.specs.Prelude.{Functions, FuncType, Instr, Call, CallI
 use Rattle.wasm_tree.specs.declared.instr.Instr.{out-Instr}
 use Rattle.wasm_meaning.specs.Prelude.{Outcome, Gives, bind, or_ill_typed, Caller, Calls, Entry, Frame, Func, FuncRef, Host, Inst, Level, Num, Placeholder, Ran, Running, Starter, Store, Val, pop_typed, type_at, type_of_func, act, enter, enter_at, perform, step, to_mark, Environment, own_count}
 use Rattle.wasm_meaning.specs.Prelude.{LoaderRun, LoaderWorld, tick_loader, Out, Run, Steps, made, tick, transition, transition_at, trapped_to}
-use Rattle.index_remap.specs.Prelude.{FrameRel, LevelRel, ListRel, OneToOne, Pairing, ResRel, ValRel, cons, done, nil, trap, wrong, IsBegun, closed, CodeAt, InSlot, WithPassing, at_code}
-use Rattle.index_remap.specs.Trampolines as with_frames
+use Rattle.run_simulation.specs.Prelude.{FrameRel, LevelRel, ListRel, OneToOne, Pairing, ResRel, ValRel, cons, done, nil, trap, wrong, IsBegun, closed, CodeAt, InSlot, WithPassing, at_code}
+use Rattle.run_simulation.specs.Trampolines as with_frames
 use Rattle.base_lists.specs.Related.{PairRel}
 use Rattle.std.specs.List.{cons_option}
-use Rattle.index_remap.proofs.ValueSteps.{pop_typed_rel}
-use Rattle.index_remap.proofs.FramesBetween.{again, between, frames}
-use Rattle.world_loader_proof.specs.LoaderSteps.{PlaceholdersAreAnswered}
+use Rattle.run_simulation.proofs.ValueSteps.{pop_typed_rel}
+use Rattle.run_simulation.proofs.FramesBetween.{again, between, frames}
+use Rattle.world_simulation.specs.LoaderSteps.{PlaceholdersAreAnswered}
 use Rattle.split_spec.specs.declared.names.SplitNames.{SplitNames}
 use Rattle.split_spec.specs.Prelude.{place_among}
-use Rattle.split_proof.specs.Worlds.{type_in}
+use Rattle.split_proof.specs.SplitWorlds.{type_in}
 use Rattle.split_proof.specs.Addresses.{calls_its_slot, calls_loaded, defined_address, may_stand, moved_addresses, slot_table_address, split_pairing}
-use Rattle.split_proof.specs.Answered.{StepAnswered}
-use Rattle.split_proof.specs.Begins.{RunsRelated}
-use Rattle.split_proof.specs.Laws.{CanBeSplit}
+use Rattle.split_proof.specs.AnsweringSteps.{StepAnswered}
+use Rattle.split_proof.specs.SplitInstantiation.{RunsRelated}
+use Rattle.split_proof.specs.SplitLaws.{CanBeSplit}
 use Rattle.split_proof.specs.MovedCalls.{ReplacementCode}
 use Rattle.split_proof.specs.LoadedCode.{InstancesAreRelated}
-use Rattle.split_proof.specs.States.{Corresponds, SlotHolds, SlotIs, filled, waits}
-use Rattle.split_proof.proofs.Arrived.{entered, in_place, loaded_first, stack_still, world}
-use Rattle.split_proof.proofs.Entered.{direct, enters_code, funcs_stay, second_frame}
-use Rattle.split_proof.proofs.Entries.{holds}
-use Rattle.split_proof.proofs.Partners.{one_to_one}
-use Rattle.split_proof.proofs.Settled.{SettleLaws}
-use Rattle.split_proof.proofs.Stuttering.{at, ran_is, step_is}
+use Rattle.split_proof.specs.CorrespondingStates.{Corresponds, SlotHolds, SlotIs, filled, waits}
+use Rattle.split_proof.proofs.StatesAfterMovedCalls.{entered, in_place, loaded_first, stack_still, world}
+use Rattle.split_proof.proofs.EnteredFunctions.{direct, enters_code, funcs_stay, second_frame}
+use Rattle.split_proof.proofs.IndexEntries.{holds}
+use Rattle.split_proof.proofs.AddressPartners.{one_to_one}
+use Rattle.split_proof.proofs.StatesAfterLoads.{SettleLaws}
+use Rattle.split_proof.proofs.StutteringRuns.{at, ran_is, step_is}
 use Rattle.base_simulation.proofs.StutteringSteps.{StutteringSteps, before, here, one_more, last_events, last_state}
 
 -- ---- what stands there ----

@@ -9,13 +9,13 @@ use Rattle.wasm_tree_spec.specs.Prelude.{tables_of}
 use Rattle.wasm_tree.specs.declared.module.ImportDesc.TheVariants as im
 use Rattle.index_remap.specs.Prelude.{renumbered_tree}
 use Rattle.wasm_write_proof.specs.Ranges.{all_numbers_in, InRange, LimitsInRange}
-use Rattle.merge_encode_proof.specs.Numbers.{FuncNumbersInRange, ImportLimitsInRange, ImportNumbersInRange, NumbersInRange}
+use Rattle.wasm_valid_proof.specs.Numbers.{FuncNumbersInRange, ImportLimitsInRange, ImportNumbersInRange, NumbersInRange}
 use Rattle.split_spec.specs.declared.names.SplitNames.{SplitNames}
 use Rattle.split_spec.specs.Prelude.{defined_at, in_slots, place_among, slot_table, slot_table_type, entities, from_primary, imports_from_primary, name_from_primary, slots_name, secondary_call, secondary_call_by_place, secondary_func, secondary_imports, secondary_map, secondary_tree}
 use Rattle.split_spec.specs.Secondary.{secondary_with}
 use Rattle.split_proof.proofs.CallsInRange.{call_numbers, calls_numbers, through_slot_numbers}
 use Rattle.split_proof.proofs.NamesInRange.{name_in, slots_name_in}
-use Rattle.split_proof.proofs.SharedInRange.{NumberLaws, entities_few, slot_limits_in, slots_from}
+use Rattle.split_proof.proofs.SlotTableInRange.{NumberLaws, entities_few, slot_limits_in, slots_from}
 
 -- ---- what the module has in each index space ----
 

@@ -12,16 +12,16 @@ use Rattle.wasm_valid.specs.Prelude.{ImportHolds, body_context, ItemsHold}
 use Rattle.index_remap.specs.declared.remap.Remap.{Remap}
 use Rattle.index_remap.specs.Prelude.{func_type, new_func, new_import, new_import_desc, renumbered_all, is_opaque_call}
 use Rattle.index_remap_proof.specs.ButForReferences.{IsValidButForReferences}
-use Rattle.split_plan.specs.Segments.{names_segment}
+use Rattle.split_plan.specs.SegmentReferences.{names_segment}
 use Rattle.split_spec.specs.declared.names.SplitNames.{SplitNames}
 use Rattle.split_spec.specs.Prelude.{call_by_slot, defined_at, place_among, slot_table_type, entities, from_primary, imports_from_primary, is_from_primary, is_named_from_primary, name_from_primary, slots_name, secondary_call, secondary_call_by_place, secondary_func, secondary_imports}
 use Rattle.split_proof.specs.Premises.{CanMove}
-use Rattle.split_proof.proofs.Bodies.{BodyLaws, CodeIsTyped, MetAgrees, body_typed, entry_agrees}
-use Rattle.split_proof.proofs.Operands.{Met}
+use Rattle.split_proof.proofs.WellTypedBodies.{BodyLaws, CodeIsTyped, MetAgrees, body_typed, entry_agrees}
+use Rattle.split_proof.proofs.OperandTests.{Met}
 use Rattle.split_proof.proofs.SecondarySpaces.{agree, funcs_many, own_at, own_entry, own_many, own_moves, own_type, r, slot_table_at, stays, u}
-use Rattle.split_proof.proofs.Spaces.{entity_holds, func_holds}
+use Rattle.split_proof.proofs.DescribedSpaces.{entity_holds, func_holds}
 use Rattle.split_proof.proofs.SlotCalls.{slot_typed, through_slot_typed}
-use Rattle.split_proof.proofs.Typed.{call_renumbered, call_typed}
+use Rattle.split_proof.proofs.CallTypes.{call_renumbered, call_typed}
 
 -- An operand that is no call of a moved function names an entity that is imported from the primary
 -- module.

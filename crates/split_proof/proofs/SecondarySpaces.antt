@@ -19,11 +19,11 @@ use Rattle.index_remap.specs.Prelude.{new_func, new_import, new_import_desc, ren
 use Rattle.index_remap_proof.specs.Indices.{Indices}
 use Rattle.index_remap_proof.specs.Trees.{TreesAgree}
 use Rattle.split_plan.specs.NamedFunctions.{is_defined}
-use Rattle.split_plan.specs.Plans.{body_uses_segment}
+use Rattle.split_plan.specs.PlannedMoves.{body_uses_segment}
 use Rattle.split_spec.specs.declared.names.SplitNames.{SplitNames}
 use Rattle.split_spec.specs.Prelude.{defined_at, slot_table, slot_table_type, entities, from_primary, imports_from_primary, is_from_primary, marks_from_primary, name_from_primary, secondary_func, secondary_map, secondary_tree}
 use Rattle.split_proof.specs.Premises.{CanMove}
-use Rattle.split_proof.proofs.Spaces.{Moves, moves, func_holds, type_there}
+use Rattle.split_proof.proofs.DescribedSpaces.{Moves, moves, func_holds, type_there}
 
 module _ (names : SplitNames) (m : Module) (holds : ItemsHold m) (moved own : List ℕ) (before : ℕ) where
   abbrev pub r : Remap

@@ -10,7 +10,7 @@ use Rattle.wasm_valid_bodies.specs.Typing.{Context, WellTyped, only}
 use Rattle.index_remap.specs.declared.remap.Remap.{Remap}
 use Rattle.index_remap.specs.Prelude.{renumbered_all, new_const}
 use Rattle.split_spec.specs.Prelude.{call_by_slot, slot_table, type_index, in_slots}
-use Rattle.split_proof.proofs.Typed.{slot_call_renumbered, slot_call_typed}
+use Rattle.split_proof.proofs.CallTypes.{slot_call_renumbered, slot_call_typed}
 
 module _ (r : Remap) (m u : Module) (f ty slot : ℕ) (t : FuncType) (types_stay : r.types ≡ numbers 0 (length m.types)) (types_same : u.types ≡ m.types)
     (slots : slice_get (table_types u) (slice_index r.tables (slot_table m)) ≡ Some func_ref) (at : slice_get (funcs_of m) f ≡ Some ty) (is : slice_get m.types ty ≡ Some t)

@@ -14,7 +14,7 @@ use Rattle.wasm_meaning.specs.Prelude.{Text, Environment, Number, Function, alon
 use Rattle.split_spec.specs.Primary.{primary_with}
 use Rattle.split_spec.specs.Secondary.{secondary_with}
 use Rattle.split_spec.specs.Examples.{names, primary_word, placeholder_word, slots_word, empty, func, import, export, table, segment, nothing, gives_number, takes_two, slots_import, calling, calling_primary, calling_secondary, numbered_placeholder}
-use Rattle.split_proof.specs.Worlds.{in_place_of, split_world, pair_world}
+use Rattle.split_proof.specs.SplitWorlds.{in_place_of, split_world, pair_world}
 
 -- ---- what is common ----
 

@@ -7,21 +7,21 @@ use Rattle.base_simulation.proofs.StepwiseSimulation.{IsAnsweredBySome, stutteri
 use Rattle.base_simulation.proofs.Prefixes.{is_prefix, more_events, prefix_trans}
 use Rattle.wasm_tree_spec.specs.Prelude.{Module}
 use Rattle.wasm_meaning.specs.Prelude.{Inst, Environment, LoaderRun, LoaderWorld, begun_under, events_loaded, fresh_loader, loader_made, tick_loader, Closed, Move, Opened, Out, Run, events, fresh_run, made, tick, transition, Begun, alone, instantiate}
-use Rattle.index_remap.specs.Prelude.{OptRel, none, some, nil, BegunRel, closed, TickSkips, calls_placeholder, FramesBetween}
-use Rattle.world_extension_proof.specs.Over.{IsOver}
+use Rattle.run_simulation.specs.Prelude.{OptRel, none, some, nil, BegunRel, closed, TickSkips, calls_placeholder, FramesBetween}
+use Rattle.world_simulation.specs.FailedRuns.{IsOver}
 use Rattle.split_spec.specs.declared.names.SplitNames.{SplitNames}
 use Rattle.wasm_valid.specs.Prelude.{ItemsHold}
 use Rattle.split_proof.specs.Addresses.{split_pairing}
-use Rattle.split_proof.specs.Begins.{RunsRelated}
-use Rattle.split_proof.specs.Laws.{CanBeSplit, most_params}
+use Rattle.split_proof.specs.SplitInstantiation.{RunsRelated}
+use Rattle.split_proof.specs.SplitLaws.{CanBeSplit, most_params}
 use Rattle.split_proof.specs.LoadedCode.{InstancesAreRelated, InstancesOfSplitsAreRelated}
-use Rattle.split_proof.specs.States.{Corresponds}
-use Rattle.split_proof.proofs.Begins.{begin_alike}
-use Rattle.split_proof.proofs.BeginFuncs.{first_insts, second_begins}
-use Rattle.split_proof.proofs.BeginStates as states
-use Rattle.split_proof.proofs.Entries.{Laws, holds, split}
-use Rattle.split_proof.proofs.Partners.{one_to_one}
-use Rattle.split_proof.proofs.Steps.{CallsAnswered, StepLaws, answered, goes, in_two}
+use Rattle.split_proof.specs.CorrespondingStates.{Corresponds}
+use Rattle.split_proof.proofs.InstantiatedSplits.{begin_alike}
+use Rattle.split_proof.proofs.InitialFunctions.{first_insts, second_begins}
+use Rattle.split_proof.proofs.InitialStates as states
+use Rattle.split_proof.proofs.IndexEntries.{Laws, holds, split}
+use Rattle.split_proof.proofs.AddressPartners.{one_to_one}
+use Rattle.split_proof.proofs.AnsweredSteps.{CallsAnswered, StepLaws, answered, goes, in_two}
 
 module _ (laws : Laws) (steps : StepLaws) (alike : InstancesOfSplitsAreRelated) (namespace : ℕ → List ℕ) (names : SplitNames) (m : Module) (moved : List ℕ) (owns : List (List ℕ)) (g : CanBeSplit namespace names m moved owns) (env : Environment) where
   abbrev valid : ItemsHold m

@@ -12,8 +12,8 @@ use Rattle.wasm_num.specs.Operations.{wrapped, un_from, un_to, un_value, bin_fro
 use Rattle.index_remap.specs.Prelude.{declaring}
 use Rattle.wasm_meaning.specs.Prelude.{Null, Number, Function, alone, Event, Linked, Returned, Got, BadMove, Move, Call, Take, Get, Size, Named, IsPrefix, events, LoaderWorld, events_loaded}
 use Rattle.split_spec.specs.Examples.{placeholder_word, primary_word, slots_word, shared_word, empty, func, import, export, table, segment, gives_number, takes_two, slots_import}
-use Rattle.split_proof.specs.Worlds.{in_place_of}
-use Rattle.split_proof.specs.Laws.{ObservationallyEquivalent}
+use Rattle.split_proof.specs.SplitWorlds.{in_place_of}
+use Rattle.split_proof.specs.SplitLaws.{ObservationallyEquivalent}
 use Rattle.split_proof.proofs.SmallRuns.{f, g, number, one_slot, two_slots, subtracting, subtracting_primary, subtracting_secondary, subtracting_world}
 
 -- A world is not equivalent to the module where its events in some number of steps are no prefix of

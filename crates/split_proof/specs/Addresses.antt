@@ -9,10 +9,10 @@ use Rattle.base_lists.specs.Options.{◌>>=◌}
 use Rattle.wasm_num.specs.Operations.{wrapped}
 use Rattle.wasm_tree_spec.specs.Prelude.{Space, Functions, Tables, Call, I32Const, CallIndirect, Module, same_func_type, imported_funcs}
 use Rattle.wasm_meaning.specs.Prelude.{Inst, Environment, own_count, defined_count}
-use Rattle.index_remap.specs.Prelude.{Pairing, passed_with}
-use Rattle.index_remap.specs.Laws.{CodeTest}
+use Rattle.run_simulation.specs.Prelude.{Pairing, passed_with}
+use Rattle.run_simulation.specs.Laws.{CodeTest}
 use Rattle.split_spec.specs.Prelude.{place_among, is_left, primary_map}
-use Rattle.split_proof.specs.Worlds.{type_in}
+use Rattle.split_proof.specs.SplitWorlds.{type_in}
 
 -- ---- addresses ----
 

@@ -1,11 +1,11 @@
 pub mod Premises
-pub mod Calls
-pub mod Worlds
+pub mod RenumberedCalls
+pub mod SplitWorlds
 pub mod Addresses
 pub mod Loads
-pub mod Laws
+pub mod SplitLaws
 pub mod LoadedCode
 pub mod MovedCalls
-pub mod Begins
-pub mod States
-pub mod Answered
+pub mod SplitInstantiation
+pub mod CorrespondingStates
+pub mod AnsweringSteps

@@ -4,14 +4,14 @@ use Rattle.std.specs.Prelude.{◌≡◌, ℕ, suc, ◌+◌, ◌-◌, ◌<◌, tr
 use Rattle.wasm_tree_spec.specs.Prelude.{Space, Functions, Tables, Memories, Globals, Module, imported_funcs, funcs_of, tables_of, memories_of, globals_of}
 use Rattle.wasm_tree.specs.declared.module.Func as tree
 use Rattle.wasm_meaning.specs.Prelude.{Inst, Store, Environment, new_func, insts_from, Added, primary_added}
-use Rattle.index_remap.specs.Prelude.{AreIndicesRelated, StoreRel, CodeAt}
+use Rattle.run_simulation.specs.Prelude.{AreIndicesRelated, StoreRel, CodeAt}
 use Rattle.world_simulation.specs.Prelude.{one}
 use Rattle.split_spec.specs.declared.names.SplitNames.{SplitNames}
 use Rattle.split_spec.specs.Prelude.{slot_table, is_left, primary_map, HasSlots}
-use Rattle.split_proof.specs.Worlds.{type_in, split_world}
+use Rattle.split_proof.specs.SplitWorlds.{type_in, split_world}
 use Rattle.split_proof.specs.Addresses.{defined_address, is_partner, slot_table_address, split_pairing}
 use Rattle.split_proof.specs.Loads.{IsLoaded}
-use Rattle.split_proof.specs.Laws.{CanBeSplit}
+use Rattle.split_proof.specs.SplitLaws.{CanBeSplit}
 
 -- ---- instances ----
 

@@ -11,8 +11,8 @@ use Rattle.wasm_meaning.specs.Prelude.{overwrite, RefVal, FuncRef, Inst, Func, T
 use Rattle.wasm_meaning.specs.World as world
 use Rattle.wasm_meaning.specs.Sequential.{added_with}
 use Rattle.index_remap.specs.Prelude.{new_func}
-use Rattle.world_contents_proof.specs.Leaves.{Stands}
-use Rattle.world_extension_proof.specs.Typed.{IsTyped}
+use Rattle.world_simulation.specs.InstantiatedStores.{Stands}
+use Rattle.world_simulation.specs.TypedInstances.{IsTyped}
 use Rattle.split_spec.specs.declared.names.SplitNames.{SplitNames}
 use Rattle.split_spec.specs.Prelude.{defined_at, slot_table, is_from_primary, prefix_taken, primary_map, primary_with, HasSlots, secondary_func, secondary_map, secondary_with}
 use Rattle.split_proof.specs.Premises.{CanMove}

@@ -3,9 +3,9 @@
 use Rattle.std.proofs.Common.{◌≡◌, ℕ, List, ◌∷◌, ◌++◌, Bool, false, Some, slice_get}
 use Rattle.wasm_tree_spec.specs.Prelude.{Space, Functions, FuncType, Instr, Call}
 use Rattle.wasm_meaning.specs.Prelude.{Val, Level, Frame, Entry, Running, type_at, enter_at, step, Move, Run, Steps, transition, tick}
-use Rattle.index_remap.specs.Prelude.{Pairing, OneToOne, ListRel, ValRel, IsBegun, passed_with, TickSkips, calls_placeholder, WithPassing, HaveTypes, at_code}
-use Rattle.index_remap.specs.Laws.{CodeTest}
-use Rattle.split_proof.specs.Begins.{RunsRelated}
+use Rattle.run_simulation.specs.Prelude.{Pairing, OneToOne, ListRel, ValRel, IsBegun, passed_with, TickSkips, calls_placeholder, WithPassing, HaveTypes, at_code}
+use Rattle.run_simulation.specs.Laws.{CodeTest}
+use Rattle.split_proof.specs.SplitInstantiation.{RunsRelated}
 
 -- Both enter functions that are partners, with related values of the first's type, over related
 -- stacks; the first is opaque. `moves` are the moves that are left.

@@ -3,7 +3,7 @@ use Rattle.std.specs.Prelude.{◌≡◌, ℕ, List, true, false}
 use Rattle.base_lists.specs.Every.{Every}
 use Rattle.wasm_tree_spec.specs.Prelude.{Module}
 use Rattle.split_plan.specs.NamedFunctions.{is_defined}
-use Rattle.split_plan.specs.Plans.{body_uses_segment}
+use Rattle.split_plan.specs.PlannedMoves.{body_uses_segment}
 
 -- the module defines each of the functions, and no body of them names a segment
 abbrev pub CanMove : Module → List ℕ → Type 0

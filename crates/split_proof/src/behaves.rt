@@ -2,8 +2,8 @@
 // equivalent to the module, and that each secondary module can be loaded wherever a run asks for
 // it.
 
-ghost use Rattle.split_proof.specs.Begins.{FirstStepsOfSplitsAgree, SplitAddressesAreOneToOne, SplitModulesBeginRelated};
-ghost use Rattle.split_proof.specs.Laws.{PairsCanBeSplit, SecondariesAlwaysLoad, SplitModuleEquivalent};
+ghost use Rattle.split_proof.specs.SplitInstantiation.{FirstStepsOfSplitsAgree, SplitAddressesAreOneToOne, SplitModulesBeginRelated};
+ghost use Rattle.split_proof.specs.SplitLaws.{PairsCanBeSplit, SecondariesAlwaysLoad, SplitModuleEquivalent};
 ghost use Rattle.split_proof.specs.MovedCalls.{EveryStepCallsMovedTogether};
 ghost use Rattle.split_proof.specs.LoadedCode.{InstancesOfSplitsAreRelated, LoadsKeepTheRelation};
 ghost use Rattle.split_proof.specs.Loads.{SecondariesLoad};
@@ -12,25 +12,18 @@ use crate::valid::{
     primary_modules_are_valid, replacing_calls_commutes_with_renumbering,
     secondary_modules_are_valid,
 };
-use index_remap::{
-    calls_through_slots_simulate_direct_calls, code_relation_is_monotone, steps_agree,
-};
+use index_remap::steps_agree;
 use index_remap_proof::renumbering_keeps_typing;
+use run_simulation::{calls_through_slots_simulate_direct_calls, code_relation_is_monotone};
 use wasm_tree::operands_pass_layer_by_layer;
 use wasm_valid::valid_where_items_hold;
-use world_contents_proof::{
-    constants_of_one_module_read_the_environment, instantiated_stores_match_their_modules,
-    segments_leave_functions_alone,
+use world_simulation::{
+    closed_runs_stay_closed, constants_of_one_module_read_the_environment,
+    declared_references_are_one_more_segment, instances_stay_typed,
+    instantiated_stores_match_their_modules, loaders_begin_as_their_primary,
+    loaders_begin_as_with_defined_placeholders, loaders_step_as_their_run,
+    segments_leave_functions_alone, store_extension_is_a_preorder, stores_are_extended,
 };
-use world_extension_proof::{
-    closed_runs_stay_closed, instances_stay_typed, store_extension_is_a_preorder,
-    stores_are_extended,
-};
-use world_loader_proof::{
-    loaders_begin_as_their_primary, loaders_begin_as_with_defined_placeholders,
-    loaders_step_as_their_run,
-};
-use world_simulation::declared_references_are_one_more_segment;
 
 /// Proves that a module alone, and its split under the loader of its secondary modules, begin alike
 /// in every environment (WebAssembly Core 2.0, section 4.5.4).

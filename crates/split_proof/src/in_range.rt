@@ -12,9 +12,9 @@ ghost use Rattle.split_spec.specs.declared.names.SplitNames.{SplitNames};
 ghost use Rattle.split_spec.specs.Primary.{primary_with};
 ghost use Rattle.split_spec.specs.Secondary.{secondary_with};
 
-use merge_encode_proof::{numbers_stay_in_range, valid_modules_are_in_range};
 use module_limits::counts_are_within_where_none_is_over;
 use wasm_valid::valid_code_names_memory_zero;
+use wasm_valid_proof::{numbers_stay_in_range, valid_modules_are_in_range};
 
 /// Proves that in both modules of a split each number is in the range of its type and each name is
 /// UTF-8 (`primary`, `secondary`), and that their bodies name no memory but memory 0

@@ -9,10 +9,10 @@ ghost use Rattle.wasm_valid.specs.Validity.{IsSingle, IsValid};
 ghost use Rattle.index_remap.specs.Renumbered.{fits_tree, renumbered_tree};
 ghost use Rattle.module_limits.specs.Counts.{over_limit};
 ghost use Rattle.split_spec.specs.declared.names.SplitNames.{SplitNames};
-ghost use Rattle.split_spec.specs.Faults.{prefix_taken};
+ghost use Rattle.split_spec.specs.FaultOrder.{prefix_taken};
 ghost use Rattle.split_spec.specs.Primary.{primary_map, primary_tree, primary_with};
 ghost use Rattle.split_spec.specs.Secondary.{secondary_map, secondary_tree, secondary_with};
-ghost use Rattle.split_proof.specs.Calls.{CallsAreReplaced};
+ghost use Rattle.split_proof.specs.RenumberedCalls.{CallsAreReplaced};
 ghost use Rattle.split_proof.specs.Premises.{CanMove};
 
 use index_remap::steps_agree;

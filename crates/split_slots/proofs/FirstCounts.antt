@@ -11,7 +11,7 @@ use Rattle.index_remap.specs.Prelude.{declared, declared_refs, with_declared, ne
 use Rattle.module_limits.specs.Counts.{or_above, over_limit}
 use Rattle.split_spec.specs.Prelude.{is_needed, is_left, left_marks, primary_funcs, primary_map, primary_tree}
 use Rattle.split_spec.specs.Primary.{primary_with}
-use Rattle.split_slots.specs.Surveyed.{FewFuncs, first_counts}
+use Rattle.split_slots.specs.SurveysAndDrafts.{FewFuncs, first_counts}
 
 -- ---- what is not left ----
 

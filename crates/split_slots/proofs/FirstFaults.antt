@@ -7,7 +7,7 @@ use Rattle.module_limits.specs.Counts.{over_limit}
 use Rattle.split_spec.specs.declared.names.SplitNames.{SplitNames}
 use Rattle.split_spec.specs.declared.faults.SplitFault.TheVariants.{NamespaceTaken, PrefixTaken, TooMany}
 use Rattle.split_spec.specs.Prelude.{moved_params, namespace_taken, prefix_taken, split_fault, too_many, primary, secondary}
-use Rattle.split_slots.specs.Surveyed.{MaySplit, first_counts, first_too_many}
+use Rattle.split_slots.specs.SurveysAndDrafts.{MaySplit, first_counts, first_too_many}
 use Rattle.split_slots.proofs.FirstCounts.{few_where_none, first_tells}
 
 module _ (names : SplitNames) (m : Module) (moved : List ℕ) where

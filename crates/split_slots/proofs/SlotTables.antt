@@ -5,7 +5,7 @@ use Rattle.base_lists.specs.Members.{is_among}
 use Rattle.base_lists.specs.Every.{Every}
 use Rattle.base_lists.specs.Places.{first_place, numbers}
 use Rattle.split_spec.specs.Prelude.{place_among}
-use Rattle.split_slots.specs.Looking.{slot_at}
+use Rattle.split_slots.specs.SlotLookup.{slot_at}
 
 -- ---- one entry of a table ----
 

@@ -4,7 +4,7 @@ use Rattle.base_lists.specs.Places.{places}
 use Rattle.wasm_tree_spec.specs.Prelude.{Space, Types, Functions, Tables, Memories, Globals, ElementSegments, DataSegments, Export, ExportDesc}
 use Rattle.wasm_tree.specs.declared.module.ExportDesc.TheVariants as ex
 use Rattle.split_spec.specs.Prelude.{exports_for_secondary, name_from_primary, slots_name}
-use Rattle.split_slots.specs.declared.sharing.Marks.{Marks}
+use Rattle.split_slots.specs.declared.named_entities.Marks.{Marks}
 
 -- what is exported for an index of a space; types and segments are never exported
 abbrev pub desc_of : Space → ℕ → ExportDesc

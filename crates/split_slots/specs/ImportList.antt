@@ -5,7 +5,7 @@ use Rattle.wasm_tree_spec.specs.Prelude.{Space, Functions, Tables, Memories, Glo
 use Rattle.wasm_tree.specs.declared.module.ImportDesc.TheVariants as im
 use Rattle.split_spec.specs.declared.names.SplitNames.{SplitNames}
 use Rattle.split_spec.specs.Prelude.{imports_from_primary, name_from_primary, slots_name, slot_table_type}
-use Rattle.split_slots.specs.declared.sharing.Marks.{Marks}
+use Rattle.split_slots.specs.declared.named_entities.Marks.{Marks}
 
 -- the import of the entity at an index, if there is one
 abbrev pub import_of : SplitNames → Space → List ImportDesc → ℕ → Option Import

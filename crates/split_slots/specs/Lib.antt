@@ -1,10 +1,10 @@
-pub mod Looking
-pub mod Replacing
-pub mod Noting
+pub mod SlotLookup
+pub mod InstructionReplacements
+pub mod OperandMarks
 pub mod ExportList
-pub mod PartedTrees
+pub mod DividedDefinitions
 pub mod PlaceholderList
-pub mod Described
+pub mod EntityDescriptions
 pub mod ImportList
-pub mod Maps
-pub mod Surveyed
+pub mod RemapsFromMarks
+pub mod SurveysAndDrafts

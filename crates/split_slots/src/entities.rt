@@ -4,7 +4,7 @@ ghost use Rattle.std.specs.Prelude.{◌≡◌, ◌++◌, [], map, IfOk, OnOk};
 ghost use Rattle.std.specs.List.{cons_option};
 ghost use Rattle.wasm_tree.specs.declared.module.ImportDesc.TheVariants as im;
 ghost use Rattle.split_spec.specs.FromPrimary as spec;
-ghost use Rattle.split_slots.specs.Described.{defined_in, desc_in, imported_in};
+ghost use Rattle.split_slots.specs.EntityDescriptions.{defined_in, desc_in, imported_in};
 
 use std::alloc::Global;
 use wasm_bytes::{Items, NoMemory};

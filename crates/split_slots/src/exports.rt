@@ -5,7 +5,7 @@ ghost use Rattle.base_lists.specs.Places.{places};
 ghost use Rattle.split_spec.specs.FromPrimary as spec;
 ghost use Rattle.split_slots.specs.ExportList.{desc_of, exported, exports_by};
 
-use crate::sharing::Marks;
+use crate::named_entities::Marks;
 use itoa::Buffer;
 use std::alloc::{AllocError, Global};
 use wasm_bytes::{Items, Name, NoMemory};

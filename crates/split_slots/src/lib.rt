@@ -2,30 +2,30 @@
 //! them through the slots of a table that the split adds.
 #![tactic(auto)]
 
-mod calls;
-mod counting;
-mod drafting;
+mod call_replacement;
+mod early_counts;
+mod early_faults;
 mod entities;
 mod exports;
-mod faults;
-mod finishing;
-mod importing;
-mod leaving;
-mod mapping;
-mod maps;
-mod moving;
-mod needing;
-mod owning;
-mod parting;
-mod placing;
-mod refusing;
-mod sharing;
+mod fault_checks;
+mod function_division;
+mod imports_from_primary;
+mod index_maps;
+mod input_survey;
+mod module_drafts;
+mod module_pair;
+mod named_entities;
+mod needed_trampolines;
+mod own_indices;
+mod primary_function_indices;
+mod primary_module;
+mod secondary_module;
+mod slot_table_items;
 mod slots;
-mod splitting;
-mod surveying;
-mod taking;
+mod taken_export_names;
+mod trampolines;
 mod types;
 
-pub use needing::needed;
+pub use module_pair::{Pair, split};
+pub use needed_trampolines::needed;
 pub use split_spec::{SplitFault, SplitNames};
-pub use splitting::{Pair, split};

@@ -4,8 +4,8 @@ ghost use Rattle.std.specs.Prelude.{◌≡◌, ◌<◌, ◌^◌, length, map, re
 ghost use Rattle.std.specs.List.Sorted.{IsStrictlyIncreasing};
 ghost use Rattle.base_lists.specs.Every.{Every};
 ghost use Rattle.base_lists.specs.Places.{numbers};
-ghost use Rattle.split_spec.specs.Slots as spec;
-ghost use Rattle.split_slots.specs.Looking.{slot_at};
+ghost use Rattle.split_spec.specs.SplitSlots as spec;
+ghost use Rattle.split_slots.specs.SlotLookup.{slot_at};
 
 use std::alloc::{AllocError, Global};
 

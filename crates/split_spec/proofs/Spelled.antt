@@ -6,7 +6,7 @@ use Rattle.wasm_tree.specs.declared.instr.Instr.{out-Instr}
 use Rattle.wasm_write_spec.specs.PlainValues.{val_code, ref_code, func_type_text, limits_text, table_text, global_type_text, global_text, const_text, import_text, import_desc_text, export_text, export_desc_text, is_func, func_of, is_funcref, index_items, const_items, elem_text, data_text}
 use Rattle.wasm_write_spec.specs.PlainCode.{bin_code, store_code, instr_step, entry_text}
 use Rattle.wasm_write_spec.specs.Plain.{plain}
-use Rattle.split_spec.proofs.Rows.{adding_primary, adding_secondary, copying_primary, copying_secondary, linked_primary, linked_secondary}
+use Rattle.split_spec.proofs.SmallSplits.{adding_primary, adding_secondary, copying_primary, copying_secondary, linked_primary, linked_secondary}
 use Rattle.split_spec.specs.Examples.{calling_primary, calling_secondary}
 
 a_primary_module : plain adding_primary ≡

@@ -8,7 +8,7 @@ use Rattle.base_lists.specs.Places.{numbers, places}
 use Rattle.wasm_tree_spec.specs.Prelude.{Space, Types, Functions, Tables, Memories, Globals, ElementSegments, DataSegments, Operand, any_operand_passes, same_space, ImportDesc, ExportDesc, Import}
 use Rattle.wasm_tree_spec.specs.Prelude.{Export, Func, Module, funcs_of, tables_of, memories_of, globals_of}
 use Rattle.wasm_tree.specs.declared.module.ImportDesc.TheVariants as im
-use Rattle.split_spec.specs.Slots.{defined_at}
+use Rattle.split_spec.specs.SplitSlots.{defined_at}
 
 -- ---- what is imported ----
 

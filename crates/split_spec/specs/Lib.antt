@@ -1,9 +1,9 @@
-pub mod Calls
-pub mod Slots
-pub mod Needed
+pub mod SubstitutedCalls
+pub mod SplitSlots
+pub mod TrampolineNeeds
 pub mod FromPrimary
 pub mod Primary
 pub mod Secondary
-pub mod Faults
+pub mod FaultOrder
 pub mod Examples
 pub mod Prelude

@@ -11,9 +11,9 @@ use Rattle.wasm_tree.specs.declared.module.ExportDesc.TheVariants as ex
 use Rattle.index_remap.specs.declared.remap.Remap.{Remap}
 use Rattle.index_remap.specs.Prelude.{declared, renumbered_tree}
 use Rattle.split_spec.specs.declared.names.SplitNames.{SplitNames}
-use Rattle.split_spec.specs.Calls.{with_calls}
-use Rattle.split_spec.specs.Slots.{type_index, place_among, slot_table, in_slots, slot_table_type, slot_segment, call_through_slot, trampoline_body}
-use Rattle.split_spec.specs.Needed.{is_needed}
+use Rattle.split_spec.specs.SubstitutedCalls.{with_calls}
+use Rattle.split_spec.specs.SplitSlots.{type_index, place_among, slot_table, in_slots, slot_table_type, slot_segment, call_through_slot, trampoline_body}
+use Rattle.split_spec.specs.TrampolineNeeds.{is_needed}
 use Rattle.split_spec.specs.FromPrimary.{from_primary, exports_for_secondary, slots_name}
 
 -- ---- functions ----

@@ -9,8 +9,8 @@ use Rattle.wasm_tree.specs.declared.module.ImportDesc.TheVariants as im
 use Rattle.index_remap.specs.declared.remap.Remap.{Remap}
 use Rattle.index_remap.specs.Prelude.{declared, renumbered_tree}
 use Rattle.split_spec.specs.declared.names.SplitNames.{SplitNames}
-use Rattle.split_spec.specs.Calls.{with_calls}
-use Rattle.split_spec.specs.Slots.{defined_at, place_among, slot_table, in_slots, slot_table_type, slot_segment, call_through_slot}
+use Rattle.split_spec.specs.SubstitutedCalls.{with_calls}
+use Rattle.split_spec.specs.SplitSlots.{defined_at, place_among, slot_table, in_slots, slot_table_type, slot_segment, call_through_slot}
 use Rattle.split_spec.specs.FromPrimary.{from_primary, imports_from_primary, marks_from_primary, slots_name}
 
 -- The functions `own` of one secondary module are consecutive in `moved`, and their slots begin at

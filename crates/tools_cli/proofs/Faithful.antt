@@ -20,7 +20,7 @@ use Rattle.tools_cli.proofs.Deciding.{one_memory}
 use Rattle.tools_cli.proofs.ReadBytes.{all_read_are, first_read}
 use Rattle.wasm_bytes.specs.Prelude.{IsBytes}
 use Rattle.eval_spec.specs.Prelude.{State}
-use Rattle.eval_numbers_proof.specs.Ranges.{BeginsInRange}
+use Rattle.eval_snapshot_proof.specs.Ranges.{BeginsInRange}
 use Rattle.eval_snapshot_spec.specs.After.{IsAfter}
 use Rattle.eval_snapshot_spec.specs.Evaluated.{evaluated_count, evaluated_tree, first_missing}
 use Rattle.eval_snapshot_spec.specs.Snapshot.{snapshot}
@@ -33,30 +33,30 @@ use Rattle.wasm_gen.specs.Laws.{SampleModulesAreValid}
 use Rattle.base_lists.proofs.Texts.{same_texts}
 use Rattle.wasm_names.specs.declared.func_name.FuncName.{FuncName}
 use Rattle.split_plan.specs.declared.plans.Plan.{Plan}
-use Rattle.split_plan.specs.Plans.{IsPlan, WhatIsPlannedIsAPlan, is_wanted}
+use Rattle.split_plan.specs.PlannedMoves.{IsPlan, WhatIsPlannedIsAPlan, is_wanted}
 use Rattle.split_spec.specs.declared.names.SplitNames.{SplitNames}
 use Rattle.split_spec.specs.declared.faults.SplitFault.TheVariants.{NamespaceTaken, PrefixTaken, TooMany}
 use Rattle.split_spec.specs.Prelude.{namespace_taken, prefix_taken, moved_params, too_many, split_fault, primary, primary_with, secondary, secondary_with}
 use Rattle.split_proof.specs.Premises.{CanMove}
-use Rattle.split_proof.specs.Laws.{PairsCanBeSplit, SecondariesAlwaysLoad, SplitModuleEquivalent}
+use Rattle.split_proof.specs.SplitLaws.{PairsCanBeSplit, SecondariesAlwaysLoad, SplitModuleEquivalent}
 use Rattle.wasm_tree_spec.specs.Prelude.{Module, IsBounded, Which, limit, Trampolines, memory_zero_funcs}
 use Rattle.wasm_valid.specs.Prelude.{IsValid, IsSingle}
 use Rattle.base_lists.specs.Every.{Every}
 use Rattle.wasm_read_spec.specs.Prelude.{Spells, Within}
 use Rattle.wasm_meaning.specs.Prelude.{Part, module_at}
 use Rattle.merge_spec.specs.Prelude.{link_fault, linked_world, joined_module, repeated_name, SeveralMemoriesAddNoFault}
-use Rattle.merge_valid_proof.specs.Joinable.{CanBeJoined}
-use Rattle.merge_behaves_proof.specs.Laws.{ObservationallyEquivalent}
+use Rattle.merge_proof.specs.Joinable.{CanBeJoined}
+use Rattle.merge_proof.specs.MergeEquivalence.{ObservationallyEquivalent}
 use Rattle.dce_graph.specs.declared.graph.Graph.{Graph}
 use Rattle.dce_graph.specs.declared.marks.Reached.{Reached}
-use Rattle.dce_sweep_spec.specs.Marks.{Marks}
-use Rattle.dce_sweep_spec.specs.Closed.{AreClosed}
-use Rattle.dce_sweep_spec.specs.Swept.{swept}
-use Rattle.dce_sweep_spec.specs.Reached.{marks_of}
-use Rattle.dce_reach_proof.specs.Laws.{ReachedMarksAreClosed}
+use Rattle.dce_spec.specs.Marks.{Marks}
+use Rattle.dce_spec.specs.Closed.{AreClosed}
+use Rattle.dce_spec.specs.Swept.{swept}
+use Rattle.dce_spec.specs.Reached.{marks_of}
+use Rattle.dce_proof.specs.ReachedMarks.{ReachedMarksAreClosed}
 use Rattle.dce_sweep.specs.Sweeps.{Sweeps, outcome}
-use Rattle.dce_behaves_proof.specs.Laws.{SweptModuleEquivalent, ObservationallyEquivalent as BehavesAsUnswept}
-use Rattle.world_sequential_proof.specs.Laws.{SequentialInstantiationIsEquivalent}
+use Rattle.dce_proof.specs.SweptModuleEquivalence.{SweptModuleEquivalent, ObservationallyEquivalent as BehavesAsUnswept}
+use Rattle.merge_proof.specs.SequentialEquivalence.{SequentialInstantiationIsEquivalent}
 use Rattle.merge_spec.specs.Joined.{outcome as merged_outcome}
 use Rattle.module_limits.specs.Counts.{or_above, over_limit}
 use Rattle.wasm_write_spec.specs.Plain.{plain}

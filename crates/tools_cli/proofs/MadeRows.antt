@@ -20,8 +20,8 @@ use Rattle.dce_graph.specs.declared.graph.Graph.{Graph}
 use Rattle.dce_graph.specs.declared.point.Point.{Point}
 use Rattle.dce_graph.specs.declared.point.Point.TheVariants as point
 use Rattle.dce_graph.specs.Prelude.{graph_result, marked, flags, IsReached, root, along, edges, point_count}
-use Rattle.dce_sweep_spec.specs.Reached.{marks_of}
-use Rattle.dce_sweep_spec.specs.Swept.{swept}
+use Rattle.dce_spec.specs.Reached.{marks_of}
+use Rattle.dce_spec.specs.Swept.{swept}
 use Rattle.wasm_names.specs.declared.func_name.FuncName.{FuncName}
 use Rattle.wasm_names.specs.NameList.{SpellsFunctionNames}
 use Rattle.split_spec.specs.Prelude.{split_fault, primary, secondary}

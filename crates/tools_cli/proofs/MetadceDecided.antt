@@ -11,16 +11,16 @@ use Rattle.serde_json.specs.Data.{Data, Items}
 use Rattle.serde_json.specs.Find.{as_array}
 use Rattle.dce_graph.specs.Laws.{ExactMarksExist, ExactMarksAreOne}
 use Rattle.dce_graph.specs.GraphFile.{GraphEntry, if_array, if_shaped, if_distinct, if_known, value_of, listed, graph_of, IsFault}
-use Rattle.dce_sweep_spec.specs.Marks.{Marks}
-use Rattle.dce_sweep_spec.specs.Reached.{marks_of}
-use Rattle.dce_sweep_spec.specs.Swept.{swept}
+use Rattle.dce_spec.specs.Marks.{Marks}
+use Rattle.dce_spec.specs.Reached.{marks_of}
+use Rattle.dce_spec.specs.Swept.{swept}
 use Rattle.dce_sweep.specs.declared.faults.SweepFault.{SweepFault}
 use Rattle.dce_sweep.specs.declared.faults.SweepFault.TheVariants as sweep
 use Rattle.dce_sweep.specs.Sweeps.{Sweeps, outcome, sweep_of}
 use Rattle.module_limits.specs.Counts.{over_limit}
 use Rattle.wasm_valid.specs.Prelude.{IsValid}
-use Rattle.dce_sweep_spec.specs.Closed.{AreClosed}
-use Rattle.dce_reach_proof.specs.Laws.{ReachedMarksAreClosed}
+use Rattle.dce_spec.specs.Closed.{AreClosed}
+use Rattle.dce_proof.specs.ReachedMarks.{ReachedMarksAreClosed}
 use Rattle.tools_cli.specs.Prelude.{Text, MetadceTask, Metadce, Decision, Refuses, Makes, Decides, Reduces, no_graph, not_swept, reduced, unused_lines, unmarked_names, input_texts}
 use Rattle.tools_cli.specs.Job.{GivesMarks}
 use Rattle.tools_cli.specs.Texts.{graph_text, sweep_text}

@@ -13,7 +13,7 @@ use Rattle.merge_spec.specs.declared.faults.JoinFault.{JoinFault}
 use Rattle.merge_spec.specs.Prelude.{link_fault, Joins}
 use Rattle.dce_graph.specs.declared.fault.GraphFault.{GraphFault}
 use Rattle.dce_graph.specs.Prelude.{graph_result}
-use Rattle.dce_sweep_spec.specs.Marks.{Marks}
+use Rattle.dce_spec.specs.Marks.{Marks}
 use Rattle.dce_sweep.specs.declared.faults.SweepFault.{SweepFault}
 use Rattle.dce_sweep.specs.Sweeps.{Sweeps}
 use Rattle.wasm_names.specs.declared.func_name.FuncName.{FuncName}

@@ -14,19 +14,19 @@ use Rattle.merge_names.specs.declared.mode.Mode.{Mode}
 use Rattle.merge_spec.specs.Prelude.{linked_world}
 use Rattle.dce_graph.specs.declared.graph.Graph.{Graph}
 use Rattle.dce_graph.specs.declared.marks.Reached.{Reached}
-use Rattle.dce_sweep_spec.specs.Reached.{marks_of}
-use Rattle.dce_sweep_spec.specs.Unswept.{unswept}
+use Rattle.dce_spec.specs.Reached.{marks_of}
+use Rattle.dce_spec.specs.Unswept.{unswept}
 use Rattle.dce_sweep.specs.Sweeps.{Sweeps}
 use Rattle.wasm_names.specs.declared.func_name.FuncName.{FuncName}
 use Rattle.split_spec.specs.Prelude.{split_fault, primary, secondary}
-use Rattle.split_proof.specs.Laws.{AlwaysLoads, most_params}
-use Rattle.split_proof.specs.Worlds.{pair_in_place}
+use Rattle.split_proof.specs.SplitLaws.{AlwaysLoads, most_params}
+use Rattle.split_proof.specs.SplitWorlds.{pair_in_place}
 use Rattle.eval_snapshot_spec.specs.Evaluated.{evaluated_count, evaluated_tree}
-use Rattle.eval_behaves_proof.specs.Worlds.{events_evaluated}
+use Rattle.eval_snapshot_proof.specs.EvaluatedWorlds.{events_evaluated}
 use Rattle.tools_cli_eval.specs.Evaluations.{fault_of}
 use Rattle.tools_cli_eval.specs.Trees.{EvaluatedAsByTheMachine}
 use Rattle.wasm_bytes.specs.Prelude.{IsBytes}
-use Rattle.world_sequential_proof.specs.Laws.{SequentialInstantiationEquivalent}
+use Rattle.merge_proof.specs.SequentialEquivalence.{SequentialInstantiationEquivalent}
 
 -- The file `name` holds an encoding of this module. If `many`, its instructions may name a memory
 -- by index.

@@ -11,14 +11,14 @@ use Rattle.dce_graph.specs.declared.graph.Graph.{Graph}
 use Rattle.dce_graph.specs.declared.marks.Reached.{Reached}
 use Rattle.dce_graph.specs.declared.fault.GraphFault.{GraphFault}
 use Rattle.dce_graph.specs.Prelude.{AreExact, graph_result}
-use Rattle.dce_sweep_spec.specs.Reached.{marks_of}
+use Rattle.dce_spec.specs.Reached.{marks_of}
 use Rattle.dce_sweep.specs.declared.faults.SweepFault.{SweepFault}
 use Rattle.dce_sweep.specs.Sweeps.{Sweeps}
 use Rattle.wasm_names.specs.declared.func_name.FuncName.{FuncName}
 use Rattle.wasm_names.specs.NameList.{AreFunctionNames}
 use Rattle.split_plan.specs.declared.plans.Plan.{Plan}
 use Rattle.split_plan.specs.declared.fault.PlanFault.{PlanFault}
-use Rattle.split_plan.specs.Plans.{plan_fault, plan_of}
+use Rattle.split_plan.specs.PlannedMoves.{plan_fault, plan_of}
 use Rattle.split_spec.specs.declared.faults.SplitFault.{SplitFault}
 use Rattle.split_spec.specs.Prelude.{split_fault, primary, secondary}
 use Rattle.eval_snapshot_spec.specs.Evaluated.{evaluated_tree}

@@ -6,16 +6,17 @@ ghost use Rattle.tools_cli.specs.Effects.{NamedFile, made};
 ghost use Rattle.tools_cli.specs.Job.{Done, Job, HasJob, HoldBytes};
 ghost use Rattle.tools_cli.specs.Faithful.{IsFaithful, ReadsBytes, SplitWordsAreText};
 
-use dce_behaves_proof::swept_module_equivalent;
-use dce_encode_proof::swept_modules_are_in_range;
 use dce_graph::exact_marks_exist;
-use dce_reach_proof::reached_marks_are_closed;
-use dce_sweep_proof::swept_modules_are_valid;
-use eval_encode_proof::{encoded_trees_begin_in_range, snapshots_are_in_range};
-use merge_behaves_proof::merged_module_equivalent;
-use merge_encode_proof::merged_modules_are_in_range;
+use dce_proof::{
+    reached_marks_are_closed, swept_module_equivalent, swept_modules_are_in_range,
+    swept_modules_are_valid,
+};
+use eval_snapshot_proof::{encoded_trees_begin_in_range, snapshots_are_in_range};
+use merge_proof::{
+    merged_module_equivalent, merged_modules_are_in_range, merged_modules_are_valid,
+    sequential_instantiation_equivalent,
+};
 use merge_spec::link_faults_name_parts;
-use merge_valid_proof::merged_modules_are_valid;
 use split_plan::{plan_faults_have_causes, what_is_planned_is_a_plan};
 use split_proof::{
     pairs_can_be_split, primary_modules_are_valid, secondary_modules_are_valid,
@@ -33,7 +34,6 @@ use wasm_valid::{modules_are_valid_or_have_a_first_invalid_item, valid_code_name
 use wasm_write_proof::{
     canonical_encoding_encodes, encoded_trees_are_in_range, trees_that_fit_have_small_sizes,
 };
-use world_sequential_proof::sequential_instantiation_equivalent;
 
 /// States that a command line has at most one job over some files, if these hold bytes.
 pub fn jobs_are_determined()

@@ -1,8 +1,8 @@
 // What `split` decides.
 ghost use Rattle.std.specs.Prelude.{◌≡◌, ◌≤◌, ◌<◌, ◌^◌, [], ◌∷◌, length, None, IfOk, IfErr};
 ghost use Rattle.wasm_names.specs.NameList.{AreFunctionNames};
-ghost use Rattle.split_plan.specs.Plans.{IsPlan};
-ghost use Rattle.split_spec.specs.Faults.{split_fault};
+ghost use Rattle.split_plan.specs.PlannedMoves.{IsPlan};
+ghost use Rattle.split_spec.specs.FaultOrder.{split_fault};
 ghost use Rattle.split_spec.specs.Primary.{primary};
 ghost use Rattle.split_spec.specs.Secondary.{secondary};
 ghost use Rattle.tools_cli.specs.CommandLine.{Split};

@@ -6,12 +6,12 @@ use Rattle.wasm_valid.specs.Validity.{IsValid}
 use Rattle.wasm_meaning.specs.State.{Text}
 use Rattle.eval_spec.specs.State.{State, Stage, Going, Stopped, Finished, state_of}
 use Rattle.eval_spec.specs.Evaluation.{IsQuiet, evaluated, state_at_end}
-use Rattle.eval_proof.specs.Laws.{CountedAreQuiet, NoneCountedBefore}
-use Rattle.eval_numbers_proof.specs.Ranges.{BeginsInRange}
+use Rattle.eval_proof.specs.EndsAndCounts.{CountedAreQuiet, NoneCountedBefore}
+use Rattle.eval_snapshot_proof.specs.Ranges.{BeginsInRange}
 use Rattle.eval_snapshot_spec.specs.Evaluated.{evaluated_count, evaluated_tree, first_missing, funcs_named, tree_in}
 use Rattle.eval_snapshot_spec.specs.After.{IsAfter}
-use Rattle.eval_behaves_proof.specs.Addresses.{QuietRunsAreTheMachines, QuietStartsAreTheMachines}
-use Rattle.eval_behaves_proof.specs.Laws.{ObservationallyEquivalent, NoneIsEquivalent, SnapshotEquivalent}
+use Rattle.eval_snapshot_proof.specs.QuietRunAddresses.{QuietRunsAreTheMachines, QuietStartsAreTheMachines}
+use Rattle.eval_snapshot_proof.specs.EquivalenceLaws.{ObservationallyEquivalent, NoneIsEquivalent, SnapshotEquivalent}
 use Rattle.tools_cli_eval.specs.Trees.{AreEvaluatedAsByTheMachine, EvaluatedAsByTheMachine, IsSnapshot, TreesBehave}
 use Rattle.tools_cli_eval.proofs.TreesHold.{finished_state, snapshot_at}
 

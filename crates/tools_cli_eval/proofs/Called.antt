@@ -3,7 +3,7 @@ use Rattle.base_lists.proofs.Common.{◌≡◌, ◌∙◌, ap, sym, refl, ℕ, s
 use Rattle.wasm_tree_spec.specs.Prelude.{Module}
 use Rattle.eval_spec.specs.declared.stop.Stop.{Stop}
 use Rattle.eval_spec.specs.Prelude.{State, Stage, Going, Stopped, Finished, is_finished, stop_of, call_end, called_in_order, calls_finished, done_count, evaluated}
-use Rattle.eval_lists_proof.specs.Lists.{AddedAreEvaluated}
+use Rattle.eval_snapshot_proof.specs.ConstructorLists.{AddedAreEvaluated}
 use Rattle.eval_machine.specs.declared.kept.Kept.{Kept}
 use Rattle.eval_machine.specs.Prelude.{SameButForTurns, StopsCall, Rests, state_in}
 use Rattle.tools_cli_eval.specs.Calls.{HaveEnded}

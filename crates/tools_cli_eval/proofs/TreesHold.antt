@@ -9,8 +9,8 @@ use Rattle.eval_spec.specs.Prelude.{State, Stage, Going, Stopped, Finished, stat
 use Rattle.eval_snapshot_spec.specs.After.{IsAfter}
 use Rattle.eval_snapshot_spec.specs.Evaluated.{evaluated_count, evaluated_tree, first_missing, funcs_named, tree_in}
 use Rattle.eval_snapshot_spec.specs.Snapshot.{snapshot, too_much}
-use Rattle.eval_snapshot_proof.specs.Suits.{HasEmptyTypeFor, Suits}
-use Rattle.eval_suits_proof.specs.Typed.{EmptyTypesAreThere, ValuesAreTyped}
+use Rattle.eval_snapshot_proof.specs.SuitableStates.{HasEmptyTypeFor, Suits}
+use Rattle.eval_snapshot_proof.specs.TypedValues.{EmptyTypesAreThere, ValuesAreTyped}
 use Rattle.tools_cli_eval.specs.Trees.{IsSnapshot, TreesAreBounded, TreesAreSingle, TreesAreSnapshots, TreesAreValid}
 use Rattle.tools_cli_eval.proofs.Assembled.{first_funcs, first_there}
 use Rattle.tools_cli_eval.proofs.Memories.{no_bytes_there}

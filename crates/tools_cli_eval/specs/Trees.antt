@@ -5,12 +5,12 @@ use Rattle.wasm_valid.specs.Prelude.{IsSingle, IsValid}
 use Rattle.module_limits.specs.Counts.{over_limit}
 use Rattle.wasm_meaning.specs.Prelude.{Text, Environment, is_environment, alone, links}
 use Rattle.eval_spec.specs.Prelude.{State, Finished, evaluated}
-use Rattle.eval_numbers_proof.specs.Ranges.{BeginsInRange}
+use Rattle.eval_snapshot_proof.specs.Ranges.{BeginsInRange}
 use Rattle.eval_snapshot_spec.specs.After.{IsAfter}
 use Rattle.eval_snapshot_spec.specs.Evaluated.{evaluated_count, evaluated_tree, first_missing, funcs_named}
 use Rattle.eval_snapshot_spec.specs.Snapshot.{snapshot}
-use Rattle.eval_behaves_proof.specs.Addresses.{IsTheMachines, StartIsTheMachines}
-use Rattle.eval_behaves_proof.specs.Laws.{ObservationallyEquivalent}
+use Rattle.eval_snapshot_proof.specs.QuietRunAddresses.{IsTheMachines, StartIsTheMachines}
+use Rattle.eval_snapshot_proof.specs.EquivalenceLaws.{ObservationallyEquivalent}
 
 -- The module after the evaluation is a snapshot in a state that the evaluated constructors left.
 pub record IsSnapshot (m : Module) (names kept : List Text) : Type 0 where

@@ -2,10 +2,10 @@
 
 ghost use Rattle.tools_cli_eval.specs.Trees.{AreEvaluatedAsByTheMachine, TreesAreBounded, TreesAreSingle, TreesAreSnapshots, TreesAreValid, TreesBehave};
 
-use eval_behaves_proof::{quiet_runs_are_the_machines, snapshot_equivalent};
 use eval_proof::{counted_constructors_are_the_longest_quiet_prefix, evaluations_end};
-use eval_snapshot_proof::snapshots_are_valid;
-use eval_suits_proof::evaluated_states_suit;
+use eval_snapshot_proof::{
+    evaluated_states_suit, quiet_runs_are_the_machines, snapshot_equivalent, snapshots_are_valid,
+};
 
 /// States that, if no listed name is missing, the module after an evaluation is a snapshot in a
 /// state that the evaluated constructors left, or the module itself.

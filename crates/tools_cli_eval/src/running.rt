@@ -4,8 +4,8 @@ ghost use Rattle.eval_machine.specs.Kept.{Rests};
 ghost use Rattle.tools_cli_eval.specs.Calls.{HaveEnded};
 ghost use Rattle.tools_cli_eval.specs.Named.{AreFuncsOf};
 
-use eval_lists_proof::lists_are_evaluated_in_order;
 use eval_machine::{Machine, Ran};
+use eval_snapshot_proof::lists_are_evaluated_in_order;
 use eval_spec::Stop;
 use wasm_bytes::NoMemory;
 use wasm_valid::Valid;

@@ -1,5 +1,7 @@
-//! Tests of what the words of a command say.
+//! Tests of tools_cli_words and tool_io.
 #![tactic(auto)]
 
 #[cfg(test)]
-mod tests;
+mod files;
+#[cfg(test)]
+mod words;

@@ -1,5 +1,9 @@
-//! Tests of the module tree: copies, index spaces, operands and limits.
+//! Tests of wasm_tree, wasm_num and module_limits.
 #![tactic(auto)]
 
 #[cfg(test)]
-mod tests;
+mod limits;
+#[cfg(test)]
+mod num;
+#[cfg(test)]
+mod tree;

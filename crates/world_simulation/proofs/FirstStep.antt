@@ -2,8 +2,8 @@
 use Rattle.base_lists.proofs.Common.{◌≡◌, arith, ℕ, zero, suc, List, [], Option, Some, Bool, refl}
 use Rattle.wasm_tree_spec.specs.Prelude.{Space}
 use Rattle.wasm_meaning.specs.Prelude.{Environment, Begun, Move, tick, events_of, fresh_run}
-use Rattle.index_remap.specs.Prelude.{Pairing, OneToOne, OptRel, none, some, nil, BegunRel, pending, closed, passed, EntryByEntry}
-use Rattle.index_remap.specs.Laws.{RelatedOuts, RelatedRunsHaveEqualTraces}
+use Rattle.run_simulation.specs.Prelude.{Pairing, OneToOne, OptRel, none, some, nil, BegunRel, pending, closed, passed, EntryByEntry}
+use Rattle.run_simulation.specs.Laws.{RelatedOuts, RelatedRunsHaveEqualTraces}
 
 module _ (law : RelatedRunsHaveEqualTraces) (of : Space → ℕ → ℕ → Bool) (apart : OneToOne (passed of of [])) (env : Environment) (moves : List Move) where
   abbrev R : Pairing

@@ -5,9 +5,9 @@ use Rattle.wasm_tree_spec.specs.Prelude.{ConstExpr, ElemMode, ElemSeg}
 use Rattle.wasm_tree.specs.declared.module.ConstExpr.TheVariants as const
 use Rattle.wasm_tree.specs.declared.module.ElemMode.TheVariants as elem
 use Rattle.wasm_meaning.specs.Prelude.{FuncRef, Val, Ref}
-use Rattle.index_remap.specs.Prelude.{Pairing, some, cons, nil, reference, func, none, passed}
+use Rattle.run_simulation.specs.Prelude.{Pairing, some, cons, nil, reference, func, none, passed}
 use Rattle.world_simulation.specs.Prelude.{ElemsCorrespond}
-use Rattle.world_simulation.specs.Definitions.{declared, kept}
+use Rattle.world_simulation.specs.CorrespondingDefinitions.{declared, kept}
 
 -- The relation relates nothing.
 abbrev R : Pairing

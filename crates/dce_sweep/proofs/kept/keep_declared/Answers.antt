@@ -1,6 +1,6 @@
 use Rattle.base_lists.proofs.Common.{◌≡◌, Some, slice_get, set, arith, ap, ◌∙◌, part_at, part_more, none_past}
-use Rattle.dce_sweep_spec.specs.Swept.{kept_elem}
-use Rattle.dce_sweep_spec.specs.Reached.{marks_of}
+use Rattle.dce_spec.specs.Swept.{kept_elem}
+use Rattle.dce_spec.specs.Reached.{marks_of}
 use Rattle.dce_sweep.proofs.kept.keep_declared.Goals as goal
 use Rattle.dce_sweep.proofs.kept.keep_declared.Goals.{in-Some+in_ok-keep_items, in_default}
 

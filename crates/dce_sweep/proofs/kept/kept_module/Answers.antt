@@ -1,6 +1,6 @@
 use Rattle.std.proofs.Common.{◌∙◌, ap, ◌-◌, drop, length}
 use Rattle.base_kept.specs.Kept.{kept}
-use Rattle.dce_sweep_spec.specs.Reached.{marks_of}
+use Rattle.dce_spec.specs.Reached.{marks_of}
 use Rattle.dce_sweep.proofs.Parts.{funcs_behind, globals_behind, tree_is}
 use Rattle.dce_sweep.proofs.kept.kept_module.Goals as goal
 

@@ -2,9 +2,9 @@ use Rattle.std.proofs.Common.{◌∙◌, ap, sym, subst, inr, Ok}
 use Rattle.wasm_tree.specs.Bounds.{IsBounded}
 use Rattle.wasm_valid.specs.Validity.{IsValid}
 use Rattle.module_limits.specs.Counts.{over_limit}
-use Rattle.dce_behaves_proof.specs.Laws.{ObservationallyEquivalent}
-use Rattle.dce_sweep_spec.specs.Swept.{swept}
-use Rattle.dce_sweep_spec.specs.Reached.{marks_of}
+use Rattle.dce_proof.specs.SweptModuleEquivalence.{ObservationallyEquivalent}
+use Rattle.dce_spec.specs.Swept.{swept}
+use Rattle.dce_spec.specs.Reached.{marks_of}
 use Rattle.dce_sweep.specs.Sweeps.{outcome}
 use Rattle.dce_sweep.proofs.Parts.{left_is}
 use Rattle.dce_sweep.proofs.sweeping.sweep.Goals as goal

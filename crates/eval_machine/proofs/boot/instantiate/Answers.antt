@@ -5,7 +5,7 @@ use Rattle.eval_spec.specs.Prelude.{stop_of, instantiated}
 use Rattle.eval_machine.specs.declared.kept.Kept.{Kept}
 use Rattle.eval_machine.specs.Prelude.{FillsTables, IsInitialMachine, PoursDatas, elems_end}
 use Rattle.wasm_valid.specs.Prelude.{ItemsHold}
-use Rattle.eval_machine.proofs.Instantiated.{datas_stop, elems_stop, globals_typed, is_instantiated, limits_few}
+use Rattle.eval_machine.proofs.Instantiations.{datas_stop, elems_stop, globals_typed, is_instantiated, limits_few}
 use Rattle.eval_machine.proofs.boot.instantiate.Goals as goal
 
 pub first_globals-requires : goal.first_globals-requires

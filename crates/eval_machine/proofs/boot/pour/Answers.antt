@@ -4,7 +4,7 @@ use Rattle.wasm_num.specs.Operations.{wrapped}
 use Rattle.block_pool.specs.Pages.{size}
 use Rattle.eval_spec.specs.Prelude.{reads_global}
 use Rattle.eval_machine.specs.Prelude.{HoldsMost}
-use Rattle.eval_machine.proofs.Poured.{fits_most, fits_still, goes, no_memory, past_the_end, too_many}
+use Rattle.eval_machine.proofs.ActiveData.{fits_most, fits_still, goes, no_memory, past_the_end, too_many}
 use Rattle.eval_machine.proofs.boot.pour.Goals as goal
 
 pub returns-in_default-clause-pours : goal.returns-in_default-clause-pours

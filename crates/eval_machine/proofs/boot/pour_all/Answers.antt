@@ -1,5 +1,5 @@
 use Rattle.base_lists.proofs.Common.{◌≡◌, Some, length, refl, subst, slice_get, slice_get_read}
-use Rattle.eval_machine.proofs.PouredState.{one_poured, one_stopped}
+use Rattle.eval_machine.proofs.DataInOrder.{one_poured, one_stopped}
 use Rattle.eval_machine.proofs.boot.pour_all.Goals as goal
 
 pub returns-in-Some-clause-pours : goal.returns-in-Some-clause-pours

@@ -1,5 +1,5 @@
 use Rattle.eval_machine.specs.Kept.{IsUnmarked, MemoryFits}
-use Rattle.eval_machine.proofs.PouredState.{Stands}
+use Rattle.eval_machine.proofs.DataInOrder.{Stands}
 use Rattle.eval_machine.proofs.boot.pour_all.Given as goal
 
 abbrev pub invariant-loop-i : goal.invariant-loop-i

@@ -1,5 +1,5 @@
 use Rattle.std.proofs.Common.{◌∙◌, ap, refl, sym}
-use Rattle.eval_machine.proofs.FirstGlobals.{blank_is}
+use Rattle.eval_machine.proofs.InitialContents.{blank_is}
 use Rattle.eval_machine.proofs.initial.blank_memory.Goals as goal
 
 pub returns : goal.returns

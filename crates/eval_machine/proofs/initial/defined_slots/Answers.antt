@@ -1,4 +1,4 @@
-use Rattle.eval_machine.proofs.FirstGlobals.{kept_defined}
+use Rattle.eval_machine.proofs.InitialContents.{kept_defined}
 use Rattle.eval_machine.proofs.initial.defined_slots.Goals as goal
 
 pub loop-i-preserved : goal.loop-i-preserved

@@ -1,4 +1,4 @@
-use Rattle.eval_machine.proofs.FirstGlobals.{AreDefined}
+use Rattle.eval_machine.proofs.InitialContents.{AreDefined}
 use Rattle.eval_machine.proofs.initial.defined_slots.Given as goal
 
 abbrev pub invariant-loop-i : goal.invariant-loop-i

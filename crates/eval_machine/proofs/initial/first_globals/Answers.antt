@@ -1,4 +1,4 @@
-use Rattle.eval_machine.proofs.AtFirst.{are_first}
+use Rattle.eval_machine.proofs.InitialGlobals.{are_first}
 use Rattle.eval_machine.proofs.initial.first_globals.Goals as goal
 
 pub returns : goal.returns

@@ -1,6 +1,6 @@
 use Rattle.base_lists.proofs.Common.{◌≡◌, ◌∙◌, Some, ap, length, refl, subst, sym, slice_get, slice_get_read}
 use Rattle.wasm_tree_spec.specs.Prelude.{global_of}
-use Rattle.eval_machine.proofs.FirstGlobals.{none_imported, one_imported}
+use Rattle.eval_machine.proofs.InitialContents.{none_imported, one_imported}
 use Rattle.eval_machine.proofs.initial.imported_slots.Goals.{in-Some+in_ok-keep-in-Some, in-None}
 use Rattle.eval_machine.proofs.initial.imported_slots.Goals as goal
 

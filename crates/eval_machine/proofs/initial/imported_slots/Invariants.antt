@@ -1,4 +1,4 @@
-use Rattle.eval_machine.proofs.FirstGlobals.{AreImported}
+use Rattle.eval_machine.proofs.InitialContents.{AreImported}
 use Rattle.eval_machine.proofs.initial.imported_slots.Given as goal
 
 abbrev pub invariant-loop-i : goal.invariant-loop-i

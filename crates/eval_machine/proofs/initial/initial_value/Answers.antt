@@ -1,5 +1,5 @@
 use Rattle.std.proofs.Common.{◌∙◌, Some, ap, sym}
-use Rattle.eval_machine.proofs.First.{names_func, reads_zero}
+use Rattle.eval_machine.proofs.InitialState.{names_func, reads_zero}
 use Rattle.eval_machine.proofs.initial.initial_value.Goals as goal
 
 pub returns-in-Func : goal.returns-in-Func

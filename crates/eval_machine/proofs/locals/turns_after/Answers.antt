@@ -1,5 +1,5 @@
 use Rattle.std.proofs.Common.{arith}
-use Rattle.eval_machine.proofs.Declared.{declared_drop}
+use Rattle.eval_machine.proofs.DeclaredLocals.{declared_drop}
 use Rattle.eval_machine.proofs.locals.turns_after.Goals as goal
 
 pub returns-then-count-most-clause-none : goal.returns-then-count-most-clause-none

@@ -1,5 +1,5 @@
 use Rattle.std.proofs.Common.{length, refl}
-use Rattle.eval_machine.proofs.Writes.{told_memory}
+use Rattle.eval_machine.proofs.WrittenBlocks.{told_memory}
 use Rattle.eval_machine.proofs.memory.init.Goals as goal
 
 pub returns-in-Err-clause-told : goal.returns-in-Err-clause-told

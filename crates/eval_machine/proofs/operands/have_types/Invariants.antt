@@ -1,5 +1,5 @@
 use Rattle.std.proofs.Common.{◌≡◌, drop, map}
-use Rattle.eval_machine.specs.Held.{are_typed, val_of}
+use Rattle.eval_machine.specs.DenotedValues.{are_typed, val_of}
 use Rattle.eval_machine.proofs.operands.have_types.Given as goal
 
 abbrev pub invariant-loop-i : goal.invariant-loop-i

@@ -4,8 +4,8 @@ use Rattle.wasm_valid.specs.Validity.{IsValid}
 use Rattle.module_limits.specs.Counts.{over_limit}
 use Rattle.eval_machine.specs.Kept.{state_in}
 use Rattle.eval_snapshot_spec.specs.Snapshot.{snapshot}
-use Rattle.eval_snapshot_proof.specs.Suits.{Suits}
-use Rattle.eval_behaves_proof.specs.Laws.{ObservationallyEquivalent}
+use Rattle.eval_snapshot_proof.specs.SuitableStates.{Suits}
+use Rattle.eval_snapshot_proof.specs.EquivalenceLaws.{ObservationallyEquivalent}
 use Rattle.eval_snapshot.specs.Outcome.{outcome}
 use Rattle.eval_snapshot.proofs.MemoryBytes.{no_bytes}
 use Rattle.eval_snapshot.proofs.Parts.{of_same}

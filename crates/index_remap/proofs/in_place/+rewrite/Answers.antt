@@ -6,7 +6,7 @@ use Rattle.wasm_tree_spec.specs.Prelude.{Call, CallIndirect, GlobalGet, GlobalSe
 use Rattle.wasm_tree_spec.specs.Prelude.{Globals, ElementSegments, DataSegments}
 use Rattle.wasm_tree.specs.declared.instr.Instr.{out-Instr, the_lemmas}
 use Rattle.wasm_tree.proofs.instr.Instr.TheLaws.{the_size}
-use Rattle.index_remap.proofs.Fits.{layer, renewed, fits_one, fits_first, fits_second, fits_arg, fits_block, fits_block_type, fits_loop, fits_loop_type, fits_then, fits_else, fits_if_type}
+use Rattle.index_remap.proofs.MapEntries.{layer, renewed, fits_one, fits_first, fits_second, fits_arg, fits_block, fits_block_type, fits_loop, fits_loop_type, fits_then, fits_else, fits_if_type}
 use Rattle.index_remap.specs.Renumbered.{renumbered, fits, fits_all}
 use Rattle.index_remap.proofs.in_place.+rewrite.Goals as goal
 use Rattle.index_remap.proofs.in_place.+rewrite.Goals.{rewrite_all-in-Some, rewrite_all-in_default}

@@ -6,8 +6,8 @@ use Rattle.merge_names.specs.declared.mode.Mode.{Mode}
 use Rattle.merge_spec.specs.declared.parts.Part as declared
 use Rattle.merge_spec.specs.Prelude.{link_fault, named_modules, linked_world, joined_module, repeated_name, Joins}
 use Rattle.module_limits.specs.Counts.{over_limit}
-use Rattle.merge_valid_proof.specs.Joinable.{CanBeJoined}
-use Rattle.merge_behaves_proof.specs.Laws.{ObservationallyEquivalent}
+use Rattle.merge_proof.specs.Joinable.{CanBeJoined}
+use Rattle.merge_proof.specs.MergeEquivalence.{ObservationallyEquivalent}
 use Rattle.merge_join.specs.LinkedParts.{PartsHold}
 use Rattle.merge_join.proofs.Outcomes.{joined_from}
 use Rattle.merge_join.proofs.merging.join.Goals as goal

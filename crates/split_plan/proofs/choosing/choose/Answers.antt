@@ -1,5 +1,5 @@
 use Rattle.base_lists.proofs.Common.{sym, ap, ◌∙◌, not}
-use Rattle.split_plan.specs.Segments.{uses_segment}
+use Rattle.split_plan.specs.SegmentReferences.{uses_segment}
 use Rattle.split_plan.proofs.Chosen.{filter_more, body_at, both}
 use Rattle.split_plan.proofs.choosing.choose.Goals as goal
 

@@ -1,8 +1,8 @@
 use Rattle.std.proofs.Common.{◌≡◌, ◌&&◌, filter}
 use Rattle.std.specs.Prelude.{not}
 use Rattle.base_lists.specs.Places.{numbers}
-use Rattle.split_plan.specs.Looking.{has_mark}
-use Rattle.split_plan.specs.Plans.{body_uses_segment}
+use Rattle.split_plan.specs.NameTable.{has_mark}
+use Rattle.split_plan.specs.PlannedMoves.{body_uses_segment}
 use Rattle.split_plan.proofs.choosing.choose.Given as goal
 
 abbrev pub invariant-loop-at : goal.invariant-loop-at

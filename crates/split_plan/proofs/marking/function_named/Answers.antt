@@ -1,7 +1,7 @@
 use Rattle.std.proofs.Common.{◌≡◌, Some, None, sym, ap, ◌∙◌, inr}
 use Rattle.split_plan.specs.declared.fault.PlanFault.TheVariants.{NoSuchFunction, AmbiguousFunction}
 use Rattle.split_plan.specs.declared.named.Named.TheVariants.{Shared}
-use Rattle.split_plan.specs.Looking.{fault_in, held_of}
+use Rattle.split_plan.specs.NameTable.{fault_in, held_of}
 use Rattle.split_plan.proofs.marking.function_named.Goals as goal
 
 pub returns-in_ok-copy-in-Some-Shared-clause-fault : goal.returns-in_ok-copy-in-Some-Shared-clause-fault

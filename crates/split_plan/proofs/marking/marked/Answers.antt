@@ -1,7 +1,7 @@
 use Rattle.base_lists.proofs.Common.{take, [], ◌∷◌, ◌++◌, sym, ap, ◌∙◌, subst, refl, take_more}
-use Rattle.split_plan.specs.Looking.{AreMarks, held_of, fault_in}
+use Rattle.split_plan.specs.NameTable.{AreMarks, held_of, fault_in}
 use Rattle.split_plan.proofs.Firsts.{goes_on}
-use Rattle.split_plan.proofs.Marks.{one_more_mark}
+use Rattle.split_plan.proofs.WordMarks.{one_more_mark}
 use Rattle.split_plan.proofs.marking.marked.Goals as goal
 
 pub loop-word-preserved : goal.loop-word-preserved

@@ -1,6 +1,6 @@
 use Rattle.std.proofs.Common.{◌≡◌, drop, take}
 use Rattle.base_lists.specs.Options.{first_given}
-use Rattle.split_plan.specs.Looking.{AreMarks, fault_in, held_of}
+use Rattle.split_plan.specs.NameTable.{AreMarks, fault_in, held_of}
 use Rattle.split_plan.proofs.marking.marked.Given as goal
 
 abbrev pub invariant-loop-word : goal.invariant-loop-word

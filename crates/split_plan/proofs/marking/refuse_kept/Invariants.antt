@@ -1,8 +1,8 @@
 use Rattle.std.proofs.Common.{◌≡◌, drop, slice_get, false}
 use Rattle.std.specs.Prelude.{unwrap_or}
 use Rattle.base_lists.specs.Options.{first_given}
-use Rattle.split_plan.specs.Looking.{func_in, held_of}
-use Rattle.split_plan.specs.Plans.{kept_fault}
+use Rattle.split_plan.specs.NameTable.{func_in, held_of}
+use Rattle.split_plan.specs.PlannedMoves.{kept_fault}
 use Rattle.split_plan.proofs.marking.refuse_kept.Given as goal
 
 abbrev pub invariant-loop-word : goal.invariant-loop-word

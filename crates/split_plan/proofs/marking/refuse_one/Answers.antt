@@ -1,8 +1,8 @@
 use Rattle.std.proofs.Common.{◌≡◌, Some, slice_get, false, sym, ap, ◌∙◌, inr}
 use Rattle.std.specs.Prelude.{unwrap_or}
 use Rattle.split_plan.specs.declared.fault.PlanFault.TheVariants.{KeptAndSplit}
-use Rattle.split_plan.specs.Looking.{func_in, held_of}
-use Rattle.split_plan.proofs.Marks.{is_refused, is_let_go}
+use Rattle.split_plan.specs.NameTable.{func_in, held_of}
+use Rattle.split_plan.proofs.WordMarks.{is_refused, is_let_go}
 use Rattle.split_plan.proofs.marking.refuse_one.Goals as goal
 
 pub returns-then-is_marked-clause-fault : goal.returns-then-is_marked-clause-fault

@@ -1,5 +1,5 @@
 use Rattle.base_lists.proofs.Common.{sym, ap, ◌∙◌, hash_map_updates_str}
-use Rattle.split_plan.specs.Looking.{held_of, once_more}
+use Rattle.split_plan.specs.NameTable.{held_of, once_more}
 use Rattle.split_plan.proofs.Tables.{put_once_more}
 use Rattle.split_plan.proofs.named.enter.Goals as goal
 

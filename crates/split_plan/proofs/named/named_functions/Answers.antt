@@ -1,6 +1,6 @@
 use Rattle.std.proofs.Common.{List, sym, ◌∙◌, arith}
 use Rattle.wasm_names.specs.declared.func_name.FuncName.{FuncName}
-use Rattle.split_plan.specs.Looking.{entry_of}
+use Rattle.split_plan.specs.NameTable.{entry_of}
 use Rattle.split_plan.specs.NamedFunctions.{exported_among}
 use Rattle.split_plan.proofs.Tables.{at_one_before, name_enters, name_passes}
 use Rattle.split_plan.proofs.named.named_functions.Goals as goal

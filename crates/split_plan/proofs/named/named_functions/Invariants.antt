@@ -1,5 +1,5 @@
 use Rattle.std.proofs.Common.{◌≡◌, drop, ℕ, List}
-use Rattle.split_plan.specs.Looking.{held_of, entry_of}
+use Rattle.split_plan.specs.NameTable.{held_of, entry_of}
 use Rattle.split_plan.proofs.named.named_functions.Given as goal
 
 abbrev pub invariant-loop-at : goal.invariant-loop-at

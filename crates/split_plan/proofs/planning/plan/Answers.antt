@@ -1,5 +1,5 @@
 use Rattle.std.specs.Option.{option_copied}
-use Rattle.split_plan.specs.Plans.{is_wanted}
+use Rattle.split_plan.specs.PlannedMoves.{is_wanted}
 use Rattle.split_plan.proofs.CauseLaws.{told_by}
 use Rattle.split_plan.proofs.Chosen.{result_shaped}
 use Rattle.split_plan.proofs.planning.plan.Goals as goal

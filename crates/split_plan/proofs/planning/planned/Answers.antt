@@ -1,6 +1,6 @@
 use Rattle.base_lists.proofs.Common.{◌≡◌, Err, sym, ◌∙◌, refl, arith, option_copied}
-use Rattle.split_plan.specs.Looking.{has_wanted_mark}
-use Rattle.split_plan.specs.Plans.{plan_for, plan_of}
+use Rattle.split_plan.specs.NameTable.{has_wanted_mark}
+use Rattle.split_plan.specs.PlannedMoves.{plan_for, plan_of}
 use Rattle.split_plan.proofs.PlanLaws.{split_fault, keep_fault, both_fault, no_fault, plan_told}
 use Rattle.split_plan.proofs.planning.planned.Goals as goal
 

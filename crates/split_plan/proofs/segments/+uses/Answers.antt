@@ -1,5 +1,5 @@
 use Rattle.std.proofs.Common.{sym, ap, ◌∙◌, ◌||◌}
-use Rattle.split_plan.specs.Segments.{uses_segment, uses_segment_in}
+use Rattle.split_plan.specs.SegmentReferences.{uses_segment, uses_segment_in}
 use Rattle.split_plan.proofs.Walks.{block_uses, loop_uses, if_uses}
 use Rattle.split_plan.proofs.segments.+uses.Goals as goal
 

@@ -1,6 +1,6 @@
-use Rattle.split_proof.proofs.Entries.{Laws}
-use Rattle.split_proof.proofs.InstancesRelated.{instances_alike}
-use Rattle.split_proof.proofs.LoadKeeps.{loads_keep}
+use Rattle.split_proof.proofs.IndexEntries.{Laws}
+use Rattle.split_proof.proofs.RelatedInstances.{instances_alike}
+use Rattle.split_proof.proofs.StoresAfterLoads.{loads_keep}
 use Rattle.split_proof.proofs.behaves.loads_preserve_the_relation.Goals as goal
 
 laws : (c : goal.After-instances_stay_typed) → Laws

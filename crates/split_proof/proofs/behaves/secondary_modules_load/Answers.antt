@@ -1,4 +1,4 @@
-use Rattle.split_proof.proofs.AlwaysLoads.{LoadLaws, secondaries_load, secondaries_always_load}
+use Rattle.split_proof.proofs.LoadsInRuns.{LoadLaws, secondaries_load, secondaries_always_load}
 use Rattle.split_proof.proofs.behaves.secondary_modules_load.Goals as goal
 
 pub returns : goal.returns

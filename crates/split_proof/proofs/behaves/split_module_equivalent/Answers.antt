@@ -1,8 +1,8 @@
-use Rattle.split_proof.proofs.AlwaysLoads.{LoadLaws}
-use Rattle.split_proof.proofs.Entries.{Laws}
-use Rattle.split_proof.proofs.Same.{show_the_same}
-use Rattle.split_proof.proofs.Settled.{SettleLaws}
-use Rattle.split_proof.proofs.Steps.{StepLaws}
+use Rattle.split_proof.proofs.LoadsInRuns.{LoadLaws}
+use Rattle.split_proof.proofs.IndexEntries.{Laws}
+use Rattle.split_proof.proofs.SplitEquivalence.{show_the_same}
+use Rattle.split_proof.proofs.StatesAfterLoads.{SettleLaws}
+use Rattle.split_proof.proofs.AnsweredSteps.{StepLaws}
 use Rattle.split_proof.proofs.behaves.split_module_equivalent.Goals as goal
 
 begins : (c : goal.After-steps_call_moved_functions_together) → Laws

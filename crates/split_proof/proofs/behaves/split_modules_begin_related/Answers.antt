@@ -1,6 +1,6 @@
-use Rattle.split_proof.proofs.Begins.{begin_alike, first_steps}
-use Rattle.split_proof.proofs.Entries.{Laws}
-use Rattle.split_proof.proofs.Partners.{one_to_one}
+use Rattle.split_proof.proofs.InstantiatedSplits.{begin_alike, first_steps}
+use Rattle.split_proof.proofs.IndexEntries.{Laws}
+use Rattle.split_proof.proofs.AddressPartners.{one_to_one}
 use Rattle.split_proof.proofs.behaves.split_modules_begin_related.Goals as goal
 
 laws : (c : goal.After-instances_stay_typed) → Laws

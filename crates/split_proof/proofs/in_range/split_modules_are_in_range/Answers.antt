@@ -1,7 +1,7 @@
 use Rattle.split_spec.specs.Prelude.{primary_with, secondary_with}
 use Rattle.split_proof.proofs.PrimaryInRange.{few_move, primary_numbers}
 use Rattle.split_proof.proofs.SecondaryInRange.{secondary_numbers}
-use Rattle.split_proof.proofs.SharedInRange.{NumberLaws}
+use Rattle.split_proof.proofs.SlotTableInRange.{NumberLaws}
 use Rattle.split_proof.proofs.in_range.split_modules_are_in_range.Goals as goal
 
 laws : (c : goal.After-counts_are_within_where_none_is_over) → NumberLaws

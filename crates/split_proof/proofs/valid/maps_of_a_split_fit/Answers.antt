@@ -1,6 +1,6 @@
-use Rattle.split_proof.proofs.Bodies.{BodyLaws}
-use Rattle.split_proof.proofs.PrimaryFits.{primary_fits}
-use Rattle.split_proof.proofs.SecondaryFits.{secondary_fits}
+use Rattle.split_proof.proofs.WellTypedBodies.{BodyLaws}
+use Rattle.split_proof.proofs.PrimaryMapEntries.{primary_fits}
+use Rattle.split_proof.proofs.SecondaryMapEntries.{secondary_fits}
 use Rattle.split_proof.proofs.valid.maps_of_a_split_fit.Goals as goal
 
 laws : (c : goal.After-replacing_calls_commutes_with_renumbering) → BodyLaws

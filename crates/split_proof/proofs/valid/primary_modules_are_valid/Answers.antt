@@ -1,4 +1,4 @@
-use Rattle.split_proof.proofs.Whole.{Laws, primary_valid, primary_single, primary_bounded}
+use Rattle.split_proof.proofs.ValidModules.{Laws, primary_valid, primary_single, primary_bounded}
 use Rattle.split_proof.proofs.valid.primary_modules_are_valid.Goals as goal
 
 laws : (c : goal.After-replacing_calls_commutes_with_renumbering) → Laws

@@ -1,4 +1,4 @@
-use Rattle.split_proof.proofs.Replacing.{calls_replaced}
+use Rattle.split_proof.proofs.RenumberedReplacements.{calls_replaced}
 use Rattle.split_proof.proofs.valid.replacing_calls_commutes_with_renumbering.Goals as goal
 
 pub returns : goal.returns

@@ -1,4 +1,4 @@
-use Rattle.split_proof.proofs.Whole.{Laws, secondary_valid, secondary_single, secondary_bounded}
+use Rattle.split_proof.proofs.ValidModules.{Laws, secondary_valid, secondary_single, secondary_bounded}
 use Rattle.split_proof.proofs.valid.secondary_modules_are_valid.Goals as goal
 
 pub returns : goal.returns

@@ -1,4 +1,4 @@
-use Rattle.split_proof.proofs.Counts.{imports_many, primary_few, secondary_few}
+use Rattle.split_proof.proofs.ModuleCounts.{imports_many, primary_few, secondary_few}
 use Rattle.split_proof.proofs.valid.split_modules_are_counted.Goals as goal
 
 pub returns : goal.returns

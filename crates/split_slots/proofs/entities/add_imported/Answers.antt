@@ -1,6 +1,6 @@
 use Rattle.base_lists.proofs.Common.{[], ◌++◌, append_assoc, ap, sym, ◌∙◌, cons_option}
-use Rattle.split_slots.specs.Described.{desc_in}
-use Rattle.split_slots.proofs.Describing.{described_more}
+use Rattle.split_slots.specs.EntityDescriptions.{desc_in}
+use Rattle.split_slots.proofs.DescribedEntities.{described_more}
 use Rattle.split_slots.proofs.entities.add_imported.Goals as goal
 
 pub loop-import-preserved : goal.loop-import-preserved

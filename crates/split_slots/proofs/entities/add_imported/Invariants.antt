@@ -1,5 +1,5 @@
 use Rattle.std.proofs.Common.{◌≡◌, ◌++◌, take}
-use Rattle.split_slots.specs.Described.{imported_in}
+use Rattle.split_slots.specs.EntityDescriptions.{imported_in}
 use Rattle.split_slots.proofs.entities.add_imported.Given as goal
 
 abbrev pub invariant-loop-import : goal.invariant-loop-import

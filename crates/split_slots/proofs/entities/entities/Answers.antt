@@ -1,6 +1,6 @@
 use Rattle.std.proofs.Common.{◌++◌, ap, ap₂, ◌∙◌}
-use Rattle.split_slots.specs.Described.{defined_in, imported_in}
-use Rattle.split_slots.proofs.Describing.{all_described}
+use Rattle.split_slots.specs.EntityDescriptions.{defined_in, imported_in}
+use Rattle.split_slots.proofs.DescribedEntities.{all_described}
 use Rattle.split_slots.proofs.entities.entities.Goals as goal
 
 pub returns : goal.returns

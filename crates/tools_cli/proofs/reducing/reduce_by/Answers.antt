@@ -1,7 +1,7 @@
 use Rattle.base_lists.proofs.Common.{◌≡◌, ◌∙◌, ap, ap₂, sym, Err, Ok, List, ℕ, length, arith}
 use Rattle.dce_graph.specs.Prelude.{graph_result}
 use Rattle.dce_graph.specs.declared.point.Point.TheVariants.{Node}
-use Rattle.dce_sweep_spec.specs.Reached.{marks_of}
+use Rattle.dce_spec.specs.Reached.{marks_of}
 use Rattle.tools_cli.specs.Prelude.{Text, decision_value, Reduces, Refuses, unused_lines, unmarked_names}
 use Rattle.tools_cli.specs.Command.{metadce_value}
 use Rattle.tools_cli.specs.Causes.{SweepFails}

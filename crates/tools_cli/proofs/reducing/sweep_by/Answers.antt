@@ -1,4 +1,4 @@
-use Rattle.dce_sweep_spec.specs.Reached.{marks_of}
+use Rattle.dce_spec.specs.Reached.{marks_of}
 use Rattle.tools_cli.proofs.MetadceDecided.{sweep_fails}
 use Rattle.tools_cli.proofs.reducing.sweep_by.Goals as goal
 

@@ -1,5 +1,5 @@
 use Rattle.std.proofs.Common.{◌≡◌, refl, arith}
-use Rattle.eval_machine.proofs.MemoryAt.{found, none_defined, none_past_it}
+use Rattle.eval_machine.proofs.DefinedMemory.{found, none_defined, none_past_it}
 use Rattle.eval_machine.proofs.MemorySteps.{load_unknown, load_nowhere, load_untyped, load_outside, load_inside}
 use Rattle.eval_machine.proofs.kept.Kept.load.Goals as goal
 

@@ -1,5 +1,5 @@
 use Rattle.std.proofs.Common.{◌≡◌, refl, arith}
-use Rattle.eval_machine.proofs.MemoryAt.{found, none_defined, none_past_it, own_memory}
+use Rattle.eval_machine.proofs.DefinedMemory.{found, none_defined, none_past_it, own_memory}
 use Rattle.eval_machine.proofs.MemorySteps.{copy_unknown, copy_unknown_source, copy_nowhere, copy_nowhere_source, copy_untyped, copy_outside}
 use Rattle.eval_machine.proofs.WriteSteps.{copy_begins}
 use Rattle.eval_machine.proofs.kept.Kept.memory_copy.Goals as goal

@@ -1,5 +1,5 @@
 use Rattle.std.proofs.Common.{◌≡◌, refl, arith}
-use Rattle.eval_machine.proofs.MemoryAt.{found, none_defined, none_past_it, own_memory}
+use Rattle.eval_machine.proofs.DefinedMemory.{found, none_defined, none_past_it, own_memory}
 use Rattle.eval_machine.proofs.MemorySteps.{fill_unknown, fill_nowhere, fill_untyped}
 use Rattle.eval_machine.proofs.WriteSteps.{fill_begins}
 use Rattle.eval_machine.proofs.kept.Kept.memory_fill.Goals as goal

@@ -1,6 +1,6 @@
 use Rattle.std.proofs.Common.{◌≡◌, ◌+◌, ◌-◌, refl, arith}
-use Rattle.eval_machine.proofs.MemoryAt.{found, none_defined, none_past_it, own_memory}
-use Rattle.eval_machine.proofs.InitSteps.{data_found, init_begins, init_missing, init_nowhere, init_outside, init_unknown, init_untyped}
+use Rattle.eval_machine.proofs.DefinedMemory.{found, none_defined, none_past_it, own_memory}
+use Rattle.eval_machine.proofs.MemoryInitSteps.{data_found, init_begins, init_missing, init_nowhere, init_outside, init_unknown, init_untyped}
 use Rattle.eval_machine.proofs.kept.Kept.memory_init.Goals as goal
 
 pub returns-then-memory-self-clause-begins : goal.returns-then-memory-self-clause-begins

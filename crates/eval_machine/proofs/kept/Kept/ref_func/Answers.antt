@@ -1,6 +1,6 @@
 use Rattle.std.proofs.Common.{length}
 use Rattle.wasm_tree.specs.Spaces.{funcs_of}
-use Rattle.eval_machine.proofs.RefSteps.{ref_missing, ref_there, not_below}
+use Rattle.eval_machine.proofs.ReferenceSteps.{ref_missing, ref_there, not_below}
 use Rattle.eval_machine.proofs.kept.Kept.ref_func.Goals as goal
 
 pub returns-then-not-is_func : goal.returns-then-not-is_func

@@ -1,5 +1,5 @@
 use Rattle.std.proofs.Common.{◌≡◌, refl, sym, arith}
-use Rattle.eval_machine.proofs.MemoryAt.{found, none_defined, none_past_it, own_memory}
+use Rattle.eval_machine.proofs.DefinedMemory.{found, none_defined, none_past_it, own_memory}
 use Rattle.eval_machine.proofs.StoreSteps.{store_begins, store_no_place, store_nothing, store_nowhere, store_unknown, store_untyped}
 use Rattle.eval_machine.proofs.kept.Kept.store.Goals as goal
 

@@ -1,7 +1,7 @@
 use Rattle.base_lists.proofs.Common.{◌++◌, ◌∷◌, [], map, ap, ◌∙◌, append_assoc, map-append}
 use Rattle.wasm_meaning.specs.Prelude.{copies, zero_of, zeros}
 use Rattle.eval_machine.specs.Prelude.{val_of}
-use Rattle.eval_machine.proofs.Declared.{zeros_more}
+use Rattle.eval_machine.proofs.DeclaredLocals.{zeros_more}
 use Rattle.eval_machine.proofs.locals.Locals.declare.Goals as goal
 
 pub loop-preserved : goal.loop-preserved

@@ -1,5 +1,5 @@
 use Rattle.std.proofs.Common.{◌∙◌}
-use Rattle.eval_machine.proofs.Declared.{zeros_drop}
+use Rattle.eval_machine.proofs.DeclaredLocals.{zeros_drop}
 use Rattle.eval_machine.proofs.locals.Locals.declare_all.Goals as goal
 
 pub loop-i-preserved : goal.loop-i-preserved

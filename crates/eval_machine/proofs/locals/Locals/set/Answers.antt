@@ -1,5 +1,5 @@
 use Rattle.std.proofs.Common.{sym, ◌∙◌}
-use Rattle.eval_machine.proofs.Chosen.{set_at, set_none}
+use Rattle.eval_machine.proofs.SelectAndSet.{set_at, set_none}
 use Rattle.eval_machine.proofs.locals.Locals.set.Goals as goal
 use Rattle.eval_machine.proofs.locals.Locals.set.Goals.{in-Some+else-not-has_type, in-None}
 

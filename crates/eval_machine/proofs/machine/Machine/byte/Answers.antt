@@ -1,5 +1,5 @@
 use Rattle.std.proofs.Common.{◌≡◌, ◌<◌, ◌∙◌, Some, ap, length, slice_get, sym}
-use Rattle.eval_machine.proofs.Told.{bytes_are, one_byte}
+use Rattle.eval_machine.proofs.ReadContents.{bytes_are, one_byte}
 use Rattle.eval_machine.proofs.machine.Machine.byte.Goals as goal
 
 pub returns-in-Some : goal.returns-in-Some

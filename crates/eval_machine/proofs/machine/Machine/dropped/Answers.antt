@@ -1,5 +1,5 @@
 use Rattle.std.proofs.Common.{◌∙◌, None, Some, ap, slice_get, sym}
-use Rattle.eval_machine.proofs.Told.{dropped_told}
+use Rattle.eval_machine.proofs.ReadContents.{dropped_told}
 use Rattle.eval_machine.proofs.machine.Machine.dropped.Goals as goal
 
 pub returns-in-Some : goal.returns-in-Some

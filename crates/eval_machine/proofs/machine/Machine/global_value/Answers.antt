@@ -1,6 +1,6 @@
 use Rattle.std.proofs.Common.{◌∙◌, ap, slice_get}
-use Rattle.eval_machine.specs.Held.{constant_of}
-use Rattle.eval_machine.proofs.Told.{global_told}
+use Rattle.eval_machine.specs.DenotedValues.{constant_of}
+use Rattle.eval_machine.proofs.ReadContents.{global_told}
 use Rattle.eval_machine.proofs.machine.Machine.global_value.Goals as goal
 
 pub returns : goal.returns

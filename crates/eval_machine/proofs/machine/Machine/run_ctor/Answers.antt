@@ -2,7 +2,7 @@ use Rattle.std.proofs.Common.{None, Some, subst}
 use Rattle.wasm_valid.specs.Validity.{IsValid}
 use Rattle.eval_machine.specs.Marks.{AreMarked}
 use Rattle.eval_machine.specs.Calls.{CallEnds}
-use Rattle.eval_machine.proofs.Ctors.{back_rests, done, done_rests, left, only_is, stopped}
+use Rattle.eval_machine.proofs.ConstructorCalls.{back_rests, done, done_rests, left, only_is, stopped}
 use Rattle.eval_machine.proofs.HostCalls.{type_there}
 use Rattle.eval_machine.proofs.machine.Machine.run_ctor.Goals as goal
 

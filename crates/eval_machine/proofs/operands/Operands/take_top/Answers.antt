@@ -1,6 +1,6 @@
 use Rattle.std.proofs.Common.{◌<◌, ◌≤◌, length, refl, arith}
-use Rattle.eval_machine.specs.Held.{val_of}
-use Rattle.eval_machine.proofs.Stacks.{taken, too_few}
+use Rattle.eval_machine.specs.DenotedValues.{val_of}
+use Rattle.eval_machine.proofs.OperandStacks.{taken, too_few}
 use Rattle.eval_machine.proofs.operands.Operands.take_top.Goals as goal
 
 pub returns-then-len-count : goal.returns-then-len-count

@@ -1,7 +1,7 @@
 use Rattle.base_lists.proofs.Common.{◌≡◌, ◌≤◌, length, map, reverse, sym, ap, ◌∙◌, arith, length-map, length-reverse}
 use Rattle.eval_machine.specs.Prelude.{are_typed, val_of}
-use Rattle.eval_machine.proofs.Stacks.{laid, typed_not, typed_off}
-use Rattle.eval_machine.proofs.Typed.{pop_short}
+use Rattle.eval_machine.proofs.OperandStacks.{laid, typed_not, typed_off}
+use Rattle.eval_machine.proofs.TypedOperands.{pop_short}
 use Rattle.eval_machine.proofs.operands.Operands.take_typed.Goals as goal
 
 pub returns-then-len-types : goal.returns-then-len-types

@@ -5,11 +5,11 @@ use Rattle.eval_machine.specs.Flows.{back_of, running}
 use Rattle.eval_machine.specs.declared.registers.Registers.{Registers}
 use Rattle.eval_machine.specs.declared.registers.Flow.TheVariants as flow
 use Rattle.eval_machine.proofs.Levels.{and_then, no_turn, fell, fell_short, jumped, jumped_short, jumped_out}
-use Rattle.eval_machine.proofs.Instructions.{spends}
+use Rattle.eval_machine.proofs.InstructionSteps.{spends}
 use Rattle.eval_machine.proofs.Frames.{came, code_more, code_end, level_runs, level_short, level_deep, back_again, back_on, frame_runs, frame_ends, frame_past, entered_slow, entered_deep, ended_given, ended_short, call_none, call_import, call_short, call_in, call_back, waiting}
-use Rattle.eval_machine.proofs.Funcs.{own_call, no_call, callee_is, callee_typed}
-use Rattle.eval_machine.proofs.Typed.{onto_below}
-use Rattle.eval_machine.proofs.Stays.{fits_still, stays_less, stays_same, stays_then}
+use Rattle.eval_machine.proofs.ModuleFunctions.{own_call, no_call, callee_is, callee_typed}
+use Rattle.eval_machine.proofs.TypedOperands.{onto_below}
+use Rattle.eval_machine.proofs.PreservedParts.{fits_still, stays_less, stays_same, stays_then}
 use Rattle.eval_machine.proofs.registers.Registers.+run.Goals as goal
 use Rattle.eval_machine.proofs.registers.Registers.+run.Goals.{run_frame-in-Branch+else-label-gt0, run_frame-in-Fell, run_frame-in-Return}
 

@@ -1,7 +1,7 @@
 use Rattle.std.proofs.Common.{[], refl}
-use Rattle.eval_machine.proofs.Callings.{call_begins}
+use Rattle.eval_machine.proofs.CallInstructions.{call_begins}
 use Rattle.eval_machine.proofs.Openings.{block_begins, loop_begins, if_begins, if_traps, not_zero_chooses, zero_chooses}
-use Rattle.eval_machine.proofs.Simple.{simple}
+use Rattle.eval_machine.proofs.SimpleInstructions.{simple}
 use Rattle.eval_machine.proofs.registers.Registers.begin.Goals as goal
 
 pub returns-in-Block-clause-begins : goal.returns-in-Block-clause-begins

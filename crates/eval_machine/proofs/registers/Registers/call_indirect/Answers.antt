@@ -1,5 +1,5 @@
 use Rattle.std.proofs.Common.{refl, sym}
-use Rattle.eval_machine.proofs.IndirectSteps.{indirect_at, indirect_imported, indirect_nothing, indirect_nowhere, indirect_outside, indirect_unknown, indirect_untyped}
+use Rattle.eval_machine.proofs.IndirectCalls.{indirect_at, indirect_imported, indirect_nothing, indirect_nowhere, indirect_outside, indirect_unknown, indirect_untyped}
 use Rattle.eval_machine.proofs.TableSteps.{table_found}
 use Rattle.eval_machine.proofs.registers.Registers.call_indirect.Goals as goal
 

@@ -1,5 +1,5 @@
 use Rattle.std.proofs.Common.{sym, ◌∙◌}
-use Rattle.eval_machine.proofs.Reached.{reaches_import, reaches_none, reaches_other, reaches_same, reaches_same_index, reaches_unknown, reaches_untyped}
+use Rattle.eval_machine.proofs.ReachedFunctions.{reaches_import, reaches_none, reaches_other, reaches_same, reaches_same_index, reaches_unknown, reaches_untyped}
 use Rattle.eval_machine.proofs.registers.Registers.reached.Goals as goal
 
 pub returns-then-func-imported : goal.returns-then-func-imported

@@ -1,5 +1,5 @@
-use Rattle.eval_machine.proofs.Simple.{plain}
-use Rattle.eval_machine.proofs.Plainly.{begins_as, plain_begins}
+use Rattle.eval_machine.proofs.SimpleInstructions.{plain}
+use Rattle.eval_machine.proofs.PlainInstructions.{begins_as, plain_begins}
 use Rattle.eval_machine.proofs.registers.Registers.simple.Goals as goal
 
 pub returns-in_ok-global_get-in-GlobalGet-clause-begins : goal.returns-in_ok-global_get-in-GlobalGet-clause-begins

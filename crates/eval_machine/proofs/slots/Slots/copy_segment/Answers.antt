@@ -1,5 +1,5 @@
 use Rattle.base_lists.proofs.Common.{◌≡◌, ◌∙◌, sym, arith, to_z, of_z, w32, ints}
-use Rattle.eval_machine.proofs.Imported.{segment_filled}
+use Rattle.eval_machine.proofs.ElementStops.{segment_filled}
 use Rattle.eval_machine.proofs.slots.Slots.copy_segment.Goals as goal
 
 pub returns : goal.returns

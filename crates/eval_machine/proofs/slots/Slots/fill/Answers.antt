@@ -1,5 +1,5 @@
 use Rattle.base_lists.proofs.Common.{◌≡◌, Some, length, ap, arith, refl, subst, slice_get, slice_get_read}
-use Rattle.eval_machine.proofs.SlotsFilled.{AllStand, all_stand, one_filled, one_stopped}
+use Rattle.eval_machine.proofs.ElementsInOrder.{AllStand, all_stand, one_filled, one_stopped}
 use Rattle.eval_machine.proofs.slots.Slots.fill.Goals as goal
 
 pub returns-in-Some : goal.returns-in-Some

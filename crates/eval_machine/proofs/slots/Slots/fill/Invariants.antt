@@ -1,6 +1,6 @@
 use Rattle.eval_spec.specs.State.{State}
-use Rattle.eval_machine.specs.Begun.{StartsAs}
-use Rattle.eval_machine.proofs.SlotsFilled.{Stands}
+use Rattle.eval_machine.specs.InstantiationParts.{StartsAs}
+use Rattle.eval_machine.proofs.ElementsInOrder.{Stands}
 use Rattle.eval_machine.proofs.slots.Slots.fill.Given as goal
 
 abbrev pub invariant-loop-i : goal.invariant-loop-i

@@ -1,6 +1,6 @@
 use Rattle.std.proofs.Common.{subst, sym}
 use Rattle.eval_machine.specs.Undo.{FlagsAreRight}
-use Rattle.eval_machine.proofs.Undone.{noted_popped}
+use Rattle.eval_machine.proofs.UndoNotes.{noted_popped}
 use Rattle.eval_machine.proofs.undo.UndoLog.forget.Goals as goal
 
 pub loop-earlier-preserved : goal.loop-earlier-preserved

@@ -1,7 +1,7 @@
 use Rattle.std.proofs.Common.{◌∙◌, ap, slice_set, subst, sym, true}
 use Rattle.std.specs.Option.{IsSome}
 use Rattle.eval_machine.specs.Undo.{FlagsAreRight, noted_global, global_before}
-use Rattle.eval_machine.proofs.Undone.{before_noted, pushed_is_noted, noted_pushed}
+use Rattle.eval_machine.proofs.UndoNotes.{before_noted, pushed_is_noted, noted_pushed}
 use Rattle.eval_machine.proofs.undo.UndoLog.note_global.Goals as goal
 
 pub returns-clause-flags : goal.returns-clause-flags

@@ -1,6 +1,6 @@
 use Rattle.std.proofs.Common.{refl, subst, sym}
 use Rattle.eval_machine.specs.Undo.{AreGlobalsBefore, FlagsAreRight}
-use Rattle.eval_machine.proofs.Undone.{all_back, noted_popped, one_back}
+use Rattle.eval_machine.proofs.UndoNotes.{all_back, noted_popped, one_back}
 use Rattle.eval_machine.proofs.undo.UndoLog.put_globals_back.Goals as goal
 
 pub loop-earlier-preserved : goal.loop-earlier-preserved

@@ -1,7 +1,7 @@
 use Rattle.std.proofs.Common.{ap, refl, subst, sym}
 use Rattle.eval_machine.specs.declared.undo.UndoLog.{UndoLog}
 use Rattle.eval_machine.specs.Undo.{AreSegmentsBefore}
-use Rattle.eval_machine.proofs.Undone.{all_segments_back, one_segment_back}
+use Rattle.eval_machine.proofs.UndoNotes.{all_segments_back, one_segment_back}
 use Rattle.eval_machine.proofs.undo.UndoLog.put_segments_back.Goals as goal
 
 pub loop-segment-preserved : goal.loop-segment-preserved

@@ -1,5 +1,0 @@
-//! Tests of what marks keep of a list.
-#![tactic(auto)]
-
-#[cfg(test)]
-mod tests;

@@ -1,5 +1,0 @@
-//! Tests of ends of paths.
-#![tactic(auto)]
-
-#[cfg(test)]
-mod tests;

@@ -1,0 +1,3 @@
+pub mod ReachedMarks
+pub mod SweptModuleEquivalence
+pub mod UnreachableFunction

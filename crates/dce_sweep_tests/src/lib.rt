@@ -1,5 +1,0 @@
-//! Tests of sweeping.
-#![tactic(auto)]
-
-#[cfg(test)]
-mod tests;

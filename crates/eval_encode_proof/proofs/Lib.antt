@@ -1,3 +1,0 @@
-mod Spelled
-mod Snapshots
-mod Rows

@@ -1,5 +1,0 @@
-use Rattle.eval_machine.specs.Kept.{Rests}
-use Rattle.eval_machine_tests.proofs.evaluated.each.Given as goal
-
-abbrev pub invariant-loop-func : goal.invariant-loop-func
-invariant-loop-func l = Rests l.input l.machine

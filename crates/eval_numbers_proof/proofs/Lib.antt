@@ -1,7 +1,0 @@
-mod Operations
-mod Lists
-mod Values
-mod Steps
-mod Beginning
-mod Evaluated
-mod Rows

@@ -1,5 +1,0 @@
-use Rattle.eval_proof.proofs.Counted.{counted_are_quiet, quiet_are_counted}
-use Rattle.eval_proof.proofs.counted_constructors_are_the_longest_quiet_prefix.Goals as goal
-
-pub returns : goal.returns
-returns c = record { quiet = counted_are_quiet; greatest = quiet_are_counted }

@@ -1,5 +1,0 @@
-use Rattle.eval_proof.proofs.Begun as law
-use Rattle.eval_proof.proofs.evaluation_is_monotone_in_the_budget.Goals as goal
-
-pub returns : goal.returns
-returns c = record { monotone = law.evaluation_is_monotone_in_the_budget }

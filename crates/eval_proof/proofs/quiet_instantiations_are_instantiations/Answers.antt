@@ -1,5 +1,0 @@
-use Rattle.eval_proof.proofs.Machines.{instantiations_are_the_machines}
-use Rattle.eval_proof.proofs.quiet_instantiations_are_instantiations.Goals as goal
-
-pub returns : goal.returns
-returns c = record { instantiations = instantiations_are_the_machines }

@@ -1,6 +1,0 @@
-pub mod Imports
-mod Itself
-mod Stored
-mod Calls
-mod Globals
-mod Typed

@@ -1,5 +1,0 @@
-use Rattle.eval_references_proof.proofs.Globals.{globals_typed}
-use Rattle.eval_references_proof.proofs.evaluated_globals_are_typed.Goals as goal
-
-pub returns : goal.returns
-returns c = record { typed = globals_typed c.steps_agree.ensures.reflexive c.steps_write_only_touched_places.ensures.writes c.valid_where_items_hold.ensures }

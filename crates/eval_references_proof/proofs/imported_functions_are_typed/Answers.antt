@@ -1,5 +1,0 @@
-use Rattle.eval_references_proof.proofs.Imports.{imports_are_typed}
-use Rattle.eval_references_proof.proofs.imported_functions_are_typed.Goals as goal
-
-pub returns : goal.returns
-returns c = λ m valid. imports_are_typed m ((c.valid_where_items_hold.ensures m).0 valid)

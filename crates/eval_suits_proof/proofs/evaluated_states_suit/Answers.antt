@@ -1,6 +1,0 @@
-use Rattle.eval_suits_proof.proofs.EmptyType.{empty_types_there}
-use Rattle.eval_suits_proof.proofs.Values.{values_typed}
-use Rattle.eval_suits_proof.proofs.evaluated_states_suit.Goals as goal
-
-pub returns : goal.returns
-returns c = record { typed = values_typed c.evaluated_references_are_there.ensures.there c.evaluated_globals_are_typed.ensures.typed; empty_type = empty_types_there c.segments_leave_functions_alone.ensures.kept c.quiet_instantiations_are_instantiations.ensures.instantiations }

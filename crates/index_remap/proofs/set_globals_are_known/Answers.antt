@@ -1,5 +1,0 @@
-use Rattle.index_remap.proofs.Unknown.{nothing_unknown, set_globals_are_known}
-use Rattle.index_remap.proofs.set_globals_are_known.Goals as goal
-
-pub returns : goal.returns
-returns c = record { nothing = nothing_unknown; set = set_globals_are_known }

@@ -1,5 +1,0 @@
-//! Tests of names of a merge.
-#![tactic(auto)]
-
-#[cfg(test)]
-mod tests;

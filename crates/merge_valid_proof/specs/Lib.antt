@@ -1,4 +1,0 @@
-pub mod Joinable
-pub mod Ended
-pub mod Entries
-pub mod Started

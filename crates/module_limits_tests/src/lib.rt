@@ -1,5 +1,0 @@
-//! Tests of counts above their limits.
-#![tactic(auto)]
-
-#[cfg(test)]
-mod tests;

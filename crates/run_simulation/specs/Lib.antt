@@ -1,0 +1,9 @@
+pub mod Related
+pub mod Groups
+pub mod RelatedRuns
+pub mod Laws
+pub mod OpaqueRuns
+pub mod Trampolines
+pub mod WiderRelations
+pub mod UnknownPlaces
+pub mod Prelude

@@ -1,5 +1,0 @@
-//! Tests of plans over a whole module.
-#![tactic(auto)]
-
-#[cfg(test)]
-mod tests;

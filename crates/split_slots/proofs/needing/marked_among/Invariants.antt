@@ -1,5 +1,0 @@
-use Rattle.std.proofs.Common.{◌≡◌, false, filter, take, slice_get, unwrap_or}
-use Rattle.split_slots.proofs.needing.marked_among.Given as goal
-
-abbrev pub invariant-loop-func : goal.invariant-loop-func
-invariant-loop-func l = l.all ≡ filter (λ func. unwrap_or (slice_get l.marks func) false) (take l.func-index l.funcs)

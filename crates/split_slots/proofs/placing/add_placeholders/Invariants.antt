@@ -1,6 +1,0 @@
-use Rattle.std.proofs.Common.{◌≡◌, ◌++◌, take}
-use Rattle.split_slots.specs.PlaceholderList.{placeholders_of}
-use Rattle.split_slots.proofs.placing.add_placeholders.Given as goal
-
-abbrev pub invariant-loop-slot : goal.invariant-loop-slot
-invariant-loop-slot l = l.imports ≡ l.initial.imports ++ placeholders_of l.namespace l.types 0 (take l.slot l.moved)

@@ -1,6 +1,0 @@
-use Rattle.std.proofs.Common.{take}
-use Rattle.split_slots.specs.Noting.{Notes, body_names}
-use Rattle.split_slots.proofs.sharing.+named.Given as goal
-
-abbrev pub invariant-note_body-loop-instr : goal.invariant-note_body-loop-instr
-invariant-note_body-loop-instr l = Notes (body_names l.slots (take l.instr-index l.body)) l.initial.marks l.marks

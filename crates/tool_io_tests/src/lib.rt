@@ -1,5 +1,0 @@
-//! Tests of files and sinks.
-#![tactic(auto)]
-
-#[cfg(test)]
-mod tests;

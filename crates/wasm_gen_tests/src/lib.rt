@@ -1,5 +1,0 @@
-//! Tests of sample modules.
-#![tactic(auto)]
-
-#[cfg(test)]
-mod tests;

@@ -1,5 +1,0 @@
-//! Tests of names of functions.
-#![tactic(auto)]
-
-#[cfg(test)]
-mod tests;

@@ -1,5 +1,0 @@
-//! Tests of numbers and their operations.
-#![tactic(auto)]
-
-#[cfg(test)]
-mod tests;

@@ -1,0 +1,4 @@
+mod BodyRanges
+mod ItemRanges
+mod ModuleNumbers
+mod GreatestNumber

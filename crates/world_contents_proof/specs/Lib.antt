@@ -1,5 +1,0 @@
-pub mod Added
-pub mod Leaves
-pub mod Copies
-pub mod FuncsAside
-pub mod OwnValues

@@ -1,6 +1,0 @@
-pub mod Extends
-pub mod StepExtends
-pub mod TickExtends
-pub mod LoadExtends
-pub mod Typed
-pub mod Over

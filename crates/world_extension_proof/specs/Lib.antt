@@ -1,3 +1,0 @@
-pub mod Extends
-pub mod Typed
-pub mod Over

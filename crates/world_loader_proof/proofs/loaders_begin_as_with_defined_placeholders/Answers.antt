@@ -1,7 +1,0 @@
-use Rattle.world_loader_proof.proofs.Stubbed.{add_as_stubbed, begin_as_stubbed, placeholders_many}
-use Rattle.world_loader_proof.proofs.loaders_begin_as_with_defined_placeholders.Goals as goal
-
-pub returns : goal.returns
-returns c =
-    let funcs = c.segments_leave_functions_alone.ensures in
-    record { added = add_as_stubbed funcs.kept funcs.ignored; begin = begin_as_stubbed funcs.kept funcs.ignored; counted = placeholders_many }

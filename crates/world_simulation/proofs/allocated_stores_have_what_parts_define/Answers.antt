@@ -1,6 +1,0 @@
-use Rattle.world_simulation.proofs.Allocated.{part_there}
-use Rattle.world_simulation.proofs.Stored.{has_definitions}
-use Rattle.world_simulation.proofs.allocated_stores_have_what_parts_define.Goals as goal
-
-pub returns : goal.returns
-returns c = record { placed = has_definitions; added = part_there }

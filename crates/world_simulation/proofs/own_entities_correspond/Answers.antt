@@ -1,7 +1,0 @@
-use Rattle.std.specs.Prelude.{[]}
-use Rattle.index_remap.specs.Laws.{passed}
-use Rattle.world_simulation.proofs.Owned.{own_correspond}
-use Rattle.world_simulation.proofs.own_entities_correspond.Goals as goal
-
-pub returns : goal.returns
-returns c = record { own = λ of env shares. own_correspond (passed of of []) env shares }

@@ -1,5 +1,0 @@
-use Rattle.world_simulation.proofs.Ordered.{elems_by, datas_by}
-use Rattle.world_simulation.proofs.segments_are_listed_by_part.Goals as goal
-
-pub returns : goal.returns
-returns c = record { elems = elems_by; datas = datas_by }
