@@ -1,5 +1,24 @@
 //! Replaces the indices of module trees and declares their references, and states the law on steps
 //! and on code with other indices.
+//!
+//! Files:
+//!
+//! - `declaring`: Declares the functions that `ref.func` names in bodies.
+//! - `each`: Parts of a module that have indices, which are replaced in place.
+//! - `in_place`: Replaces the indices of trees in place.
+//! - `remap`: The maps of indices, and the parts of a module that have only a few indices.
+//! - `renumbering`: Renumbers a copy of a module.
+//! - `specs/Agreement`: When an index of one context agrees with its entry in a map, in another
+//!   context.
+//! - `specs/CodeNames`: How the indices that code names are related to their entries in a map.
+//! - `specs/Laws`: The laws of code with other indices: it is related to the code that it is made
+//!   of, and well typed.
+//! - `specs/References`: A tree in which one more declarative element segment declares the
+//!   functions that `ref.func` names in bodies, if any is not declared.
+//! - `specs/Renumbered`: A tree in which each index is replaced by its entry in the map of its
+//!   index space.
+//! - `specs/Replaced`: Code in which each index is replaced by its entry in a map, and each call
+//!   of a function of a list by other code.
 #![tactic(auto)]
 
 mod declaring;

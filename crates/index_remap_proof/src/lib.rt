@@ -1,6 +1,17 @@
 //! Laws of what stays valid when indices are replaced by their entries in a map: bodies and
 //! constant expressions, items of a tree, whole trees, and trees whose references are declared; and
 //! that a well-typed body names only functions that may be named.
+//!
+//! Files:
+//!
+//! - `specs/Along`: When two contexts agree along a map of indices: at each index of a set and at
+//!   its entry.
+//! - `specs/ButForReferences`: Trees that are valid, except that `ref.func` may name in a body
+//!   functions that the tree does not declare.
+//! - `specs/Indices`: Sets of indices, and code and parts of a tree that name only indices of a
+//!   set.
+//! - `specs/Trees`: When two trees agree along a map of indices, and when an item of one comes
+//!   from an item of the other.
 #![tactic(auto)]
 
 ghost use Rattle.std.specs.Prelude.{◌≡◌, ◌<◌, ◌+◌, ◌^◌, ℕ, List, IsTrue, Some, length, slice_get, true};

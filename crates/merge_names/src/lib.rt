@@ -1,5 +1,18 @@
 //! Chooses names for the exports of several parts in one module, where export names must differ
 //! (WebAssembly Core 2.0, section 3.4.10).
+//!
+//! Files:
+//!
+//! - `fault`: Why no names are chosen.
+//! - `given`: Names as texts.
+//! - `keeping`: Modes that keep the first export of each name.
+//! - `mode`: / What happens to an export whose name repeats an earlier one.
+//! - `renaming`: The mode `Rename`: an export whose name repeats an earlier one gets a number.
+//! - `specs/Chosen`: One step of renaming.
+//! - `specs/Given`: What the contracts say about names as texts.
+//! - `specs/Laws`: Laws about the new names.
+//! - `specs/Names`: How the exports of several parts are named in one module, where export names
+//!   must differ.
 #![tactic(auto)]
 
 mod fault;

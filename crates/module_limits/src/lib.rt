@@ -1,4 +1,9 @@
 //! The first count of a module that is over its limit.
+//!
+//! Files:
+//!
+//! - `counts`: The counts of a module, compared with their limits.
+//! - `specs/Counts`: The counts of a module, compared with their limits.
 #![tactic(auto)]
 
 ghost use Rattle.module_limits.specs.Counts.{CountsAreWithinWhereNoneIsOver};

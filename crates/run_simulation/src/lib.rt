@@ -1,6 +1,21 @@
 //! Laws of runs: steps from related stores agree, and related runs have equal traces, also where
 //! functions are opaque, where frames only pass results on, and where the stores are related except
 //! at unknown places.
+//!
+//! Files:
+//!
+//! - `specs/Groups`: Instructions in three groups, and the law of steps for a group.
+//! - `specs/Laws`: The laws of steps and of runs.
+//! - `specs/OpaqueRuns`: Runs with opaque functions: which steps begin a call of one, and that
+//!   every other step of two related runs has the same event and leaves the runs related.
+//! - `specs/Related`: Stores and configurations that are related by a relation of addresses.
+//! - `specs/RelatedRuns`: Related runs: a relation of addresses relates their states, and given
+//!   relations relate their stacks.
+//! - `specs/Trampolines`: Calls through slots of a table.
+//! - `specs/UnknownPlaces`: Unknown places of a store, beside a relation of addresses: what is
+//!   there need not be related.
+//! - `specs/WiderRelations`: If more code may stand in place of calls, what was related stays
+//!   related.
 #![tactic(auto)]
 
 ghost use Rattle.run_simulation.specs.Laws.{CodeIsRelatedToItself, NamedAreKnown, OthersStay, RelatedRunsHaveEqualTraces, RelatedTicksAgree, ShownAgree, StepsAgree, TrapsAgree};

@@ -3,6 +3,36 @@
 //!
 //! The definitions are in `specs/`, and no command runs code of this crate. `docs/SEMANTICS.md`
 //! explains them.
+//!
+//! Files:
+//!
+//! - `specs/Access`: What loads read and stores write: little-endian numbers of 1, 2, 4 or 8
+//!   bytes.
+//! - `specs/Control`: Calls, ends, branches and blocks.
+//! - `specs/Counted`: How many entities of a kind parts define, and which exports are found by
+//!   name.
+//! - `specs/Environment`: What an embedder offers to a world, and the values that it sees and
+//!   passes.
+//! - `specs/Laws`: Laws of runs and of joining imports by name.
+//! - `specs/Linking`: Imports that are joined by name: where each ends, which limits are asked of
+//!   a staying import, and what constant expressions read through joined globals.
+//! - `specs/Loader`: A module under a loader.
+//! - `specs/Memory`: Instructions on memories and data segments.
+//! - `specs/Outcomes`: The outcome of a part of a step, and look-ups in lists.
+//! - `specs/Paths`: Paths: a point has no step, or its step ends with something or leads to
+//!   another point.
+//! - `specs/Run`: The embedder's moves, and runs.
+//! - `specs/Sequential`: Sequential instantiation: each part is matched and allocated, its
+//!   segments are copied and its start function runs, before the next part's turn.
+//! - `specs/StartFrames`: What the steps of a start function depend on: only its own entries of
+//!   the stack.
+//! - `specs/State`: The store and the configuration, and the results of a step.
+//! - `specs/Step`: One small step.
+//! - `specs/Tables`: Instructions on tables and element segments.
+//! - `specs/Touched`: What a step writes into the store, computed from what is on top of the stack
+//!   before it.
+//! - `specs/Values`: Instructions on values, locals and globals.
+//! - `specs/World`: Worlds, and their instantiation at once.
 #![tactic(auto)]
 
 ghost use Rattle.wasm_meaning.specs.StartFrames.{StartDependsOnlyOnItsFrames};

@@ -1,4 +1,11 @@
 //! Numbers of the integer types, the names of the integer operations, and the operations.
+//!
+//! Files:
+//!
+//! - `narrow`: The operations on i32, each by its formula.
+//! - `operations`: The operations, applied by their names.
+//! - `wide`: The operations on i64, each by its formula.
+//! - `specs/Operations`: The integer operations, as formulas over whole numbers.
 #![tactic(auto)]
 
 mod narrow;

@@ -1,5 +1,27 @@
 //! Validation of modules (WebAssembly Core 2.0, chapter 3, for the integer profile): it accepts a
 //! module, or reports its first invalid item.
+//!
+//! Files:
+//!
+//! - `constants`: Constant expressions.
+//! - `first`: The first invalid item.
+//! - `holds`: The validity of items by their kind.
+//! - `items`: When each item is valid.
+//! - `kinds`: Items that can be invalid.
+//! - `laws`: Laws of valid modules.
+//! - `named`: The functions that `ref.func` may name in a body.
+//! - `repeated`: Export names that occurred before.
+//! - `spaces`: The index spaces of a module, each computed once.
+//! - `validation`: Modules that are known to be valid.
+//! - `written`: What the binary format requires of a module, except sizes.
+//! - `specs/Constants`: Constant expressions.
+//! - `specs/First`: The first invalid item.
+//! - `specs/Named`: The functions that `ref.func` may name in a body: those that the module names
+//!   outside its bodies and its start.
+//! - `specs/Names`: Repeated names.
+//! - `specs/Rejection`: Why a module is rejected.
+//! - `specs/SpaceTypes`: The reference types of tables and element segments.
+//! - `specs/Validity`: When a module is valid: each of its items is.
 #![tactic(auto)]
 
 mod constants;

@@ -1,4 +1,23 @@
 //! The writer: the canonical encoding of a module, and whether it fits into a number of bytes.
+//!
+//! Files:
+//!
+//! - `buffer`: A file that is written from its last byte to its first.
+//! - `code`: Bodies and instructions.
+//! - `forms`: How an instruction is written.
+//! - `numbers`: Numbers, from their last byte to their first.
+//! - `opcodes`: Opcodes of operations, loads and stores.
+//! - `plain`: A value with a canonical encoding.
+//! - `sections`: Sections, and the whole module.
+//! - `segments`: Element and data segments.
+//! - `size`: A count of the bytes of an encoding.
+//! - `target`: What a canonical encoding is written to: a file, or a count of its bytes.
+//! - `types`: Types.
+//! - `specs/Forms`: How an instruction is written.
+//! - `specs/Laws`: Laws of a text that is written in front of others (in a buffer), and of a count
+//!   that stops at the greatest u64 (a size).
+//! - `specs/Parts`: Parts of the canonical encoding of a module.
+//! - `specs/Sizes`: Counting bytes.
 #![tactic(auto)]
 
 ghost use Rattle.std.specs.Prelude.{◌≡◌, ◌≤◌, length, false, IfOk, IsTrue, ◌↔◌};

@@ -1,4 +1,13 @@
 //! Laws of the canonical encoding of a module: it encodes the module.
+//!
+//! Files:
+//!
+//! - `specs/Ranges`: What holds of each tree that a program has, because its numbers have types
+//!   and its names are text: each number is in the range of its type, and each name is UTF-8.
+//! - `specs/SmallSizes`: Each vector of a module and each size in its canonical encoding is below
+//!   2^32 (Core 2.0, 5.1.3 and 5.5.2).
+//! - `specs/TreeLimits`: What is limited in a file is within its limits in the tree: the counts of
+//!   the module, the parameters and results of types, and the locals and nesting of functions.
 #![tactic(auto)]
 
 ghost use Rattle.std.specs.Prelude.{◌≡◌, true, ℕ, List, ◌<◌, ◌^◌, length, false, IsTrue};
