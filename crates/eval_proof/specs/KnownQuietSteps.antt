@@ -28,7 +28,7 @@ FuncsOf i funcs = (a : ℕ) (f : Func) → slice_get funcs a ≡ Some f → IsCo
 
 -- Quiet steps that go on are steps of the machine. Each of these goes on, reads no unknown place
 -- and names related addresses, and what they leave unknown is the same. (So
--- `steps_agree_off_unknown_places` of index_remap gives as many steps from any related store and
+-- `steps_agree_off_unknown_places` of run_simulation gives as many steps from any related store and
 -- entries.)
 abbrev pub QuietStepsAreKnown : Type 0
 QuietStepsAreKnown =

@@ -1,4 +1,4 @@
-//! Defines the two modules of a split, the names that it adds, and its faults. `proofs/Rows`
+//! Defines the two modules of a split, the names that it adds, and its faults. `proofs/SmallSplits`
 //! computes both modules of small splits.
 //!
 //! Files:
