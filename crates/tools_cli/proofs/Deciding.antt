@@ -1,8 +1,8 @@
 -- The job of a task, from the inputs of the task.
 use Rattle.base_lists.proofs.Common.{◌≡◌, ◌∙◌, sym, refl, ap, subst, Bool, true, false, cond, map, ℕ, zero, suc, ◌≤◌, List, [], ◌∷◌, ◌++◌, take, drop, length, arith, Contains, list_all}
 use Rattle.std.proofs.Common.{length-append}
-use Rattle.tools_cli.specs.Prelude.{Text, MetadceTask, SplitTask, CtorEvalTask, SampleTask, Task, Merge, Metadce, Split, CtorEval, Sample, many_of, modules_of, texts_of, inputs_of, Job, Usage, Refused, Done, Output, Decision, Refuses, Makes, not_linked, not_joined, merged, Reduces, no_graph}
-use Rattle.tools_cli.specs.Prelude.{not_swept, reduced, Splits, no_plan, not_parted, parted, Evaluates, not_evaluated, evaluated, Samples, not_merged, sampled, Decides, is_within, spelled_output, job_of, AllLoad, OneFails, module_files, contents_of, InputsJob, not_loaded, decided, NamedFile}
+use Rattle.tools_cli.specs.Prelude.{Text, MetadceTask, SplitTask, CtorEvalTask, SampleTask, Task, Merge, Metadce, Split, CtorEval, Sample, many_of, modules_of, texts_of, inputs_of, Job, Usage, Refused, Done, Output, Decision, Refuses, Makes, not_linked, not_joined, merged, SweepsByGraph, no_graph}
+use Rattle.tools_cli.specs.Prelude.{not_swept, swept_by_marks, Splits, no_plan, not_parted, parted, Evaluates, not_evaluated, evaluated, Samples, not_merged, sampled, Decides, is_within, spelled_output, job_of, AllLoad, OneFails, module_files, contents_of, InputsJob, not_loaded, decided, NamedFile}
 use Rattle.tools_cli.specs.Prelude.{written_names, total, PrintsAsAllowed, input_entry, input_entries, input_texts}
 use Rattle.tools_cli.specs.CommandLine.{outputs_of}
 use Rattle.tools_cli.specs.Job.{Missing}
@@ -89,10 +89,10 @@ JobIsAllowed t texts Usage = Unit {0}
 JobIsAllowed t texts Missing = Unit {0}
 JobIsAllowed t texts (Refused text) = Unit {0}
 
-reduced_allowed : (metadce : MetadceTask) (tree : Module) (text : Text) (texts : List Text) (decision : Decision) → Reduces metadce tree text decision → DecisionIsAllowed (Metadce metadce) texts decision
-reduced_allowed metadce tree text texts decision (no_graph fault says found told) = tt
-reduced_allowed metadce tree text texts decision (not_swept g marks fault says is found told) = tt
-reduced_allowed metadce tree text texts decision (reduced g marks left unused is found lists) = ((λ name h. h), λ e. absurd (cc))
+swept_allowed : (metadce : MetadceTask) (tree : Module) (text : Text) (texts : List Text) (decision : Decision) → SweepsByGraph metadce tree text decision → DecisionIsAllowed (Metadce metadce) texts decision
+swept_allowed metadce tree text texts decision (no_graph fault says found told) = tt
+swept_allowed metadce tree text texts decision (not_swept g marks fault says is found told) = tt
+swept_allowed metadce tree text texts decision (swept_by_marks g marks left unused is found lists) = ((λ name h. h), λ e. absurd (cc))
 
 split_allowed : (split : SplitTask) (tree : Module) (bytes : Text) (texts : List Text) (decision : Decision) → Splits split tree bytes decision → DecisionIsAllowed (Split split) texts decision
 split_allowed split tree bytes texts decision (no_plan names fault says named found told) = tt
@@ -111,7 +111,7 @@ decision_allowed : (t : Task) (trees : List Module) (contents texts : List Text)
 decision_allowed (Merge merge) trees contents texts decision (not_linked fault text found says) = tt
 decision_allowed (Merge merge) trees contents texts decision (not_joined fault text linked found says) = tt
 decision_allowed (Merge merge) trees contents texts decision (merged tree is) = ((λ name h. h), λ e. refl)
-decision_allowed (Metadce metadce) trees contents texts decision h = let one = of_one metadce trees contents decision h in reduced_allowed metadce one.0 one.2 texts decision one.5
+decision_allowed (Metadce metadce) trees contents texts decision h = let one = of_one metadce trees contents decision h in swept_allowed metadce one.0 one.2 texts decision one.5
 decision_allowed (Split split) trees contents texts decision h = let one = of_one_split split trees contents decision h in split_allowed split one.0 one.1 texts decision one.4
 decision_allowed (CtorEval eval) trees contents texts decision h = let one = of_one_eval eval trees contents decision h in eval_allowed eval one.0 texts decision one.4
 decision_allowed (Sample sample) trees contents texts decision h = let none = of_none sample trees contents decision h in sample_allowed sample texts decision none.2

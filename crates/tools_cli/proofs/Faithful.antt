@@ -8,7 +8,7 @@ use Rattle.std.specs.Cmp.{eq_by_cmp_equiv}
 use Rattle.std.proofs.lemmas.Cmp.{nat_list_cmp_total}
 use Rattle.tool_io.specs.FilesAndSinks.{FileContents}
 use Rattle.tools_cli.specs.Prelude.{Text, Source, MergeTask, MetadceTask, SplitTask, CtorEvalTask, SampleTask, Task, Merge, Metadce, Split, CtorEval, Sample, task_of, many_of, modules_of, texts_of, inputs_of, are_apart, NamedFile, made, IsReadAs, IsAccepted, Job, Usage, Refused, Done, Gathered}
-use Rattle.tools_cli.specs.Prelude.{Whole, Lacks, TooLong, add_first, add_file, gathered, most_input, most_output, LoadsFile, loaded, faulty, invalid, AllLoad, Output, Decision, Refuses, Makes, Merges, not_linked, not_joined, merged, Reduces, no_graph, not_swept, reduced, words_plan, Splits}
+use Rattle.tools_cli.specs.Prelude.{Whole, Lacks, TooLong, add_first, add_file, gathered, most_input, most_output, LoadsFile, loaded, faulty, invalid, AllLoad, Output, Decision, Refuses, Makes, Merges, not_linked, not_joined, merged, SweepsByGraph, no_graph, not_swept, swept_by_marks, words_plan, Splits}
 use Rattle.tools_cli.specs.Prelude.{no_plan, not_parted, parted, Evaluates, not_evaluated, evaluated, Samples, not_merged, sampled, sample_merge, sample_parts, Decides, is_within, spelled_output, job_of, module_files, contents_of, parts_of, AreMerged, InputsJob, not_loaded, decided, TaskJob}
 use Rattle.tools_cli.specs.Prelude.{not_begun, missing, too_long, all_read, HasJob, no_task, asked}
 use Rattle.merge_names.specs.declared.mode.Mode.{Mode}
@@ -298,18 +298,18 @@ left_makes k metadce file text tree left graph marks loads is left_is =
       also = tt;
     }
 
-reducing_is_sound : Respelled → (metadce : MetadceTask) (file text : NamedFile) (tree : Module) (decision : Decision) → LoadsFile false file.0 file.1 (Ok tree) → Reduces metadce tree text.1 decision
+sweeping_is_sound : Respelled → (metadce : MetadceTask) (file text : NamedFile) (tree : Module) (decision : Decision) → LoadsFile false file.0 file.1 (Ok tree) → SweepsByGraph metadce tree text.1 decision
     → IsSoundDecision (Metadce metadce) (tree ∷ []) (file.1 ∷ text.1 ∷ []) decision
-reducing_is_sound k metadce file text tree decision loads (no_graph fault says found told) = tt
-reducing_is_sound k metadce file text tree decision loads (not_swept graph marks fault says is found told) = tt
-reducing_is_sound k metadce file text tree decision loads (reduced graph marks left unused is found lists) = left_makes k metadce file text tree left graph marks loads is found
+sweeping_is_sound k metadce file text tree decision loads (no_graph fault says found told) = tt
+sweeping_is_sound k metadce file text tree decision loads (not_swept graph marks fault says is found told) = tt
+sweeping_is_sound k metadce file text tree decision loads (swept_by_marks graph marks left unused is found lists) = left_makes k metadce file text tree left graph marks loads is found
 
 metadce_is_sound : Respelled → (metadce : MetadceTask) (files : List NamedFile) (trees : List Module) (decision : Decision) → AllLoad false (module_files (Metadce metadce) files) trees → Decides (Metadce metadce) trees (contents_of files) decision
     → IsSoundDecision (Metadce metadce) trees (contents_of files) decision
 metadce_is_sound k metadce files [] decision loads h = absurd h
 metadce_is_sound k metadce [] (tree ∷ []) decision loads h = absurd h
 metadce_is_sound k metadce (file ∷ []) (tree ∷ []) decision loads h = absurd h
-metadce_is_sound k metadce (file ∷ text ∷ []) (tree ∷ []) decision loads h = reducing_is_sound k metadce file text tree decision loads.0 h
+metadce_is_sound k metadce (file ∷ text ∷ []) (tree ∷ []) decision loads h = sweeping_is_sound k metadce file text tree decision loads.0 h
 metadce_is_sound k metadce (file ∷ text ∷ other ∷ files) (tree ∷ []) decision loads h = absurd h
 metadce_is_sound k metadce files (tree ∷ other ∷ trees) decision loads h = absurd h
 

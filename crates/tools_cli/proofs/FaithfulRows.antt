@@ -200,8 +200,8 @@ merge_of_an_endless_part_refuses_an_end = goes_beyond _ asks (number 5 ∷ []) (
 
 -- ---- metadce ----
 
-abbrev pub reducing : MetadceTask
-reducing = record { file = codes "in.wasm"; graph_file = codes "graph.json"; output = codes "out.wasm" }
+abbrev pub sweeping : MetadceTask
+sweeping = record { file = codes "in.wasm"; graph_file = codes "graph.json"; output = codes "out.wasm" }
 
 -- The function `f` is reached, with what its body names, and `a` is not. (With the endless body
 -- below, which names less, more is kept than is reached.)
@@ -212,7 +212,7 @@ abbrev pub without_a : List Instr → Module
 without_a body = record (with body) { funcs = func 0 body ∷ []; exports = export f (ex.Func 1) ∷ [] }
 
 abbrev of_metadce : (read written : List Instr) → Option Equivalence
-of_metadce read written = equivalence (Metadce reducing) reached (with read ∷ []) (without_a written ∷ [])
+of_metadce read written = equivalence (Metadce sweeping) reached (with read ∷ []) (without_a written ∷ [])
 
 metadce_shows : IsClaimed (of_metadce asking asking) (λ claim. Shows claim (gives 5 BadMove 5) (gives 5 BadMove 5))
 unfolding out-Instr denote.Hole.Carrier.out wrapped

@@ -31,7 +31,7 @@ use Rattle.eval_snapshot_spec.specs.Evaluated.{evaluated_tree}
 use Rattle.eval_snapshot_spec.specs.Snapshot.{declared_snapshot}
 use Rattle.tools_cli.specs.Prelude.{Merge, Metadce, Split, CtorEval, Sample, parts_of, AreMerged, sample_merge}
 use Rattle.tools_cli.specs.Faithful.{AreMade}
-use Rattle.tools_cli.proofs.FaithfulRows.{f, a, with, asking, merging, calling, both, reducing, reached, without_a}
+use Rattle.tools_cli.proofs.FaithfulRows.{f, a, with, asking, merging, calling, both, sweeping, reached, without_a}
 use Rattle.tools_cli.proofs.FaithfulRows.{splitting, keeping, moving, f_moves, evaluating, set_to_7, sampling, passing, drawn, they_are_drawn, sampled}
 
 -- ---- merge ----
@@ -101,7 +101,7 @@ it_is_swept : swept (marks_of reached) (with asking) ≡ without_a asking
 unfolding swept
 it_is_swept = search (rules, the_lemmas)
 
-without_a_is_made : (bytes : Text) → AreMade (Metadce reducing) (with asking ∷ []) (bytes ∷ graph_text ∷ []) reached (without_a asking ∷ [])
+without_a_is_made : (bytes : Text) → AreMade (Metadce sweeping) (with asking ∷ []) (bytes ∷ graph_text ∷ []) reached (without_a asking ∷ [])
 unfolding over_limit
 without_a_is_made bytes = (graph, record { read = it_is_read; exact = record { exactly = λ p. ((λ h. (are_right p h).0), are_marked p); one_each = one_each } }, rw it_is_swept refl)
   where

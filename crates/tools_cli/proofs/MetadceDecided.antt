@@ -21,7 +21,7 @@ use Rattle.module_limits.specs.Counts.{over_limit}
 use Rattle.wasm_valid.specs.Prelude.{IsValid}
 use Rattle.dce_spec.specs.Closed.{AreClosed}
 use Rattle.dce_proof.specs.ReachedMarks.{ReachedMarksAreClosed}
-use Rattle.tools_cli.specs.Prelude.{Text, MetadceTask, Metadce, Decision, Refuses, Makes, Decides, Reduces, no_graph, not_swept, reduced, unused_lines, unmarked_names, input_texts}
+use Rattle.tools_cli.specs.Prelude.{Text, MetadceTask, Metadce, Decision, Refuses, Makes, Decides, SweepsByGraph, no_graph, not_swept, swept_by_marks, unused_lines, unmarked_names, input_texts}
 use Rattle.tools_cli.specs.Job.{GivesMarks}
 use Rattle.tools_cli.specs.Texts.{graph_text, sweep_text}
 use Rattle.tools_cli.specs.Unused.{AreUnused}
@@ -55,23 +55,23 @@ pub sweep_fails : (marks : Marks) (tree : Module) (says : Text) (fault : SweepFa
 sweep_fails marks tree says fault (inr h) e = (fault, h, e)
 sweep_fails marks tree says fault (inl none) e = let no_text : None ≡ Some says = ap sweep_text (sym none) ∙ e in absurd (cc)
 
-pub graph_refused : (metadce : MetadceTask) (tree : Module) (text says : Text) → GraphFails metadce.graph_file text says → Reduces metadce tree text (Refuses says)
+pub graph_refused : (metadce : MetadceTask) (tree : Module) (text says : Text) → GraphFails metadce.graph_file text says → SweepsByGraph metadce tree text (Refuses says)
 graph_refused metadce tree text says (fault, found, told) = no_graph fault says found told
 
-pub sweep_refused : (metadce : MetadceTask) (tree : Module) (text : Text) (g : Graph) (marks : Reached) → graph_result text ≡ Ok g → AreExact g tree marks → (says : Text) → SweepFails (marks_of marks) tree says → Reduces metadce tree text (Refuses says)
+pub sweep_refused : (metadce : MetadceTask) (tree : Module) (text : Text) (g : Graph) (marks : Reached) → graph_result text ≡ Ok g → AreExact g tree marks → (says : Text) → SweepFails (marks_of marks) tree says → SweepsByGraph metadce tree text (Refuses says)
 sweep_refused metadce tree text g marks read exact says (fault, found, told) = not_swept g marks fault says (record { read = read; exact = exact }) found told
 
 pub reduced_made : (metadce : MetadceTask) (tree left : Module) (text lines : Text) (g : Graph) (marks : Reached) (decision : Decision) → graph_result text ≡ Ok g → AreExact g tree marks → Sweeps (marks_of marks) tree (Ok left)
-    → lines ≡ unused_lines (unmarked_names g.nodes marks.nodes) → decision ≡ Makes (record { name = metadce.output; tree = left; custom = [] } ∷ []) lines → Reduces metadce tree text decision
+    → lines ≡ unused_lines (unmarked_names g.nodes marks.nodes) → decision ≡ Makes (record { name = metadce.output; tree = left; custom = [] } ∷ []) lines → SweepsByGraph metadce tree text decision
 reduced_made metadce tree left text lines g marks decision read exact left_is told made =
-    let P : Decision → Type 0 = Reduces metadce tree text in
+    let P : Decision → Type 0 = SweepsByGraph metadce tree text in
     subst P (sym (made ∙ ap (Makes (record { name = metadce.output; tree = left; custom = [] } ∷ [])) told))
-    (reduced g marks left (unmarked_names g.nodes marks.nodes) (record { read = read; exact = exact }) left_is (unmarked_unused g tree marks exact))
+    (swept_by_marks g marks left (unmarked_names g.nodes marks.nodes) (record { read = read; exact = exact }) left_is (unmarked_unused g tree marks exact))
 
 -- ---- one module and two files ----
 
 abbrev pub IsOfOne : MetadceTask → List Module → List Text → Decision → Type 0
-IsOfOne metadce trees contents decision = (tree : Module) × (bytes : Text) × (text : Text) × (trees ≡ tree ∷ []) × (contents ≡ bytes ∷ text ∷ []) × Reduces metadce tree text decision
+IsOfOne metadce trees contents decision = (tree : Module) × (bytes : Text) × (text : Text) × (trees ≡ tree ∷ []) × (contents ≡ bytes ∷ text ∷ []) × SweepsByGraph metadce tree text decision
 
 pub of_one : (metadce : MetadceTask) (trees : List Module) (contents : List Text) (decision : Decision) → Decides (Metadce metadce) trees contents decision → IsOfOne metadce trees contents decision
 of_one metadce [] contents decision h = absurd h
@@ -128,10 +128,10 @@ outcome_never (Some which) m e = cc
 outcome_never None m e = cc
 
 abbrev pub SomeReduces : MetadceTask → Module → Text → Type 0
-SomeReduces metadce tree text = (decision : Decision) × Reduces metadce tree text decision
+SomeReduces metadce tree text = (decision : Decision) × SweepsByGraph metadce tree text decision
 
 sweep_told : (metadce : MetadceTask) (tree : Module) (text : Text) (g : Graph) (marks : Reached) → GivesMarks text tree g marks → (r : Result Module SweepFault) → sweep_of (marks_of marks) tree ≡ r → SomeReduces metadce tree text
-sweep_told metadce tree text g marks is (Ok left) e = (_, reduced g marks left (unmarked_names g.nodes marks.nodes) is e (unmarked_unused g tree marks is.exact))
+sweep_told metadce tree text g marks is (Ok left) e = (_, swept_by_marks g marks left (unmarked_names g.nodes marks.nodes) is e (unmarked_unused g tree marks is.exact))
 sweep_told metadce tree text g marks is (Err (sweep.TooMany which)) e = (_, not_swept g marks (sweep.TooMany which) _ is e refl)
 sweep_told metadce tree text g marks is (Err sweep.NoMemory) e = absurd (outcome_never (over_limit (swept (marks_of marks) tree)) (swept (marks_of marks) tree) e)
 
@@ -172,24 +172,24 @@ one_sweep one text tree g h marks others r q is be e f =
     let P : Graph → Type 0 = λ x. AreExact x tree marks in
     sym e ∙ ap (λ (k : Reached). sweep_of (marks_of k) tree) (one h tree marks others (subst P same is.exact) be.exact) ∙ f
 
-pub reduces_once : ExactMarksAreOne → (metadce : MetadceTask) (tree : Module) (text : Text) (this other : Decision) → Reduces metadce tree text this → Reduces metadce tree text other → this ≡ other
-reduces_once one metadce tree text this other (no_graph fault says found told) (no_graph fault' says' found' told') =
+pub sweeps_once : ExactMarksAreOne → (metadce : MetadceTask) (tree : Module) (text : Text) (this other : Decision) → SweepsByGraph metadce tree text this → SweepsByGraph metadce tree text other → this ≡ other
+sweeps_once one metadce tree text this other (no_graph fault says found told) (no_graph fault' says' found' told') =
     let both : ◌≡◌ {A = Result Graph GraphFault} (Err fault) (Err fault') = sym found ∙ found' in
     let same : fault ≡ fault' = cc in
     ap Refuses (one_text (graph_text metadce.graph_file fault) says says' told (ap (graph_text metadce.graph_file) same ∙ told'))
-reduces_once one metadce tree text this other (no_graph fault says found told) (not_swept g marks fault' says' is found' told') = no_other text g fault is.read found
-reduces_once one metadce tree text this other (no_graph fault says found told) (reduced g marks left unused is found' lists) = no_other text g fault is.read found
-reduces_once one metadce tree text this other (not_swept g marks fault says is found told) (no_graph fault' says' found' told') = no_other text g fault' is.read found'
-reduces_once one metadce tree text this other (not_swept g marks fault says is found told) (not_swept h others fault' says' be found' told') =
+sweeps_once one metadce tree text this other (no_graph fault says found told) (not_swept g marks fault' says' is found' told') = no_other text g fault is.read found
+sweeps_once one metadce tree text this other (no_graph fault says found told) (swept_by_marks g marks left unused is found' lists) = no_other text g fault is.read found
+sweeps_once one metadce tree text this other (not_swept g marks fault says is found told) (no_graph fault' says' found' told') = no_other text g fault' is.read found'
+sweeps_once one metadce tree text this other (not_swept g marks fault says is found told) (not_swept h others fault' says' be found' told') =
     let both : ◌≡◌ {A = Result Module SweepFault} (Err fault) (Err fault') = one_sweep one text tree g h marks others (Err fault) (Err fault') is be found found' in
     let same : fault ≡ fault' = cc in
     ap Refuses (one_text (sweep_text fault) says says' told (ap sweep_text same ∙ told'))
-reduces_once one metadce tree text this other (not_swept g marks fault says is found told) (reduced h others left unused be found' lists) =
+sweeps_once one metadce tree text this other (not_swept g marks fault says is found told) (swept_by_marks h others left unused be found' lists) =
     absurd (let both : ◌≡◌ {A = Result Module SweepFault} (Err fault) (Ok left) = one_sweep one text tree g h marks others (Err fault) (Ok left) is be found found' in cc)
-reduces_once one metadce tree text this other (reduced g marks left unused is found lists) (no_graph fault' says' found' told') = no_other text g fault' is.read found'
-reduces_once one metadce tree text this other (reduced g marks left unused is found lists) (not_swept h others fault' says' be found' told') =
+sweeps_once one metadce tree text this other (swept_by_marks g marks left unused is found lists) (no_graph fault' says' found' told') = no_other text g fault' is.read found'
+sweeps_once one metadce tree text this other (swept_by_marks g marks left unused is found lists) (not_swept h others fault' says' be found' told') =
     absurd (let both : ◌≡◌ {A = Result Module SweepFault} (Ok left) (Err fault') = one_sweep one text tree g h marks others (Ok left) (Err fault') is be found found' in cc)
-reduces_once one metadce tree text this other (reduced g marks left unused is found lists) (reduced h others left' unused' be found' lists') =
+sweeps_once one metadce tree text this other (swept_by_marks g marks left unused is found lists) (swept_by_marks h others left' unused' be found' lists') =
     let both : ◌≡◌ {A = Result Module SweepFault} (Ok left) (Ok left') = one_sweep one text tree g h marks others (Ok left) (Ok left') is be found found' in
     let same : left ≡ left' = cc in
     let P : Graph → Type 0 = λ x. AreUnused x tree unused in
@@ -200,6 +200,6 @@ pub metadce_once : ExactMarksAreOne → (metadce : MetadceTask) (trees : List Mo
 metadce_once one metadce [] contents this other h k = absurd h
 metadce_once one metadce (tree ∷ []) [] this other h k = absurd h
 metadce_once one metadce (tree ∷ []) (bytes ∷ []) this other h k = absurd h
-metadce_once one metadce (tree ∷ []) (bytes ∷ text ∷ []) this other h k = reduces_once one metadce tree text this other h k
+metadce_once one metadce (tree ∷ []) (bytes ∷ text ∷ []) this other h k = sweeps_once one metadce tree text this other h k
 metadce_once one metadce (tree ∷ []) (bytes ∷ text ∷ more ∷ others) this other h k = absurd h
 metadce_once one metadce (tree ∷ more ∷ trees) contents this other h k = absurd h

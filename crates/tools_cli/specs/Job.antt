@@ -159,12 +159,12 @@ pub record GivesMarks (text : Text) (tree : Module) (graph : Graph) (marks : Rea
 -- What a metadce of this module decides, if its graph file has this text: the text is not a graph;
 -- what is left of the module is above a limit; or the output is what is left, with a line for each
 -- name of a node that is not reached.
-pub data Reduces (metadce : MetadceTask) (tree : Module) (text : Text) : Decision → Type 0 where
-  no_graph : (fault : GraphFault) (says : Text) → graph_result text ≡ Err fault → graph_text metadce.graph_file fault ≡ Some says → Reduces metadce tree text (Refuses says)
+pub data SweepsByGraph (metadce : MetadceTask) (tree : Module) (text : Text) : Decision → Type 0 where
+  no_graph : (fault : GraphFault) (says : Text) → graph_result text ≡ Err fault → graph_text metadce.graph_file fault ≡ Some says → SweepsByGraph metadce tree text (Refuses says)
   not_swept : (graph : Graph) (marks : Reached) (fault : SweepFault) (says : Text) → GivesMarks text tree graph marks → Sweeps (marks_of marks) tree (Err fault) → sweep_text fault ≡ Some says →
-      Reduces metadce tree text (Refuses says)
-  reduced : (graph : Graph) (marks : Reached) (left : Module) (unused : List Text) → GivesMarks text tree graph marks → Sweeps (marks_of marks) tree (Ok left) → AreUnused graph tree unused
-      → Reduces metadce tree text (Makes (record { name = metadce.output; tree = left; custom = [] } ∷ []) (unused_lines unused))
+      SweepsByGraph metadce tree text (Refuses says)
+  swept_by_marks : (graph : Graph) (marks : Reached) (left : Module) (unused : List Text) → GivesMarks text tree graph marks → Sweeps (marks_of marks) tree (Ok left) → AreUnused graph tree unused
+      → SweepsByGraph metadce tree text (Makes (record { name = metadce.output; tree = left; custom = [] } ∷ []) (unused_lines unused))
 
 -- Which functions move in a split, and which were to move and are kept because their bodies name a
 -- segment; then the first fault of the listed names. `names` are the names that the module's
@@ -234,7 +234,7 @@ pub data Samples (sample : SampleTask) : Decision → Type 0 where
 -- What a task decides over its modules and the contents of all its files, the modules first.
 abbrev pub Decides : Task → List Module → (contents : List Text) → Decision → Type 0
 Decides (Merge merge) trees contents decision = Merges merge trees decision
-Decides (Metadce metadce) (tree ∷ []) (bytes ∷ text ∷ []) decision = Reduces metadce tree text decision
+Decides (Metadce metadce) (tree ∷ []) (bytes ∷ text ∷ []) decision = SweepsByGraph metadce tree text decision
 Decides (Metadce metadce) _ _ decision = ⊥
 Decides (Split split) (tree ∷ []) (bytes ∷ []) decision = Splits split tree bytes decision
 Decides (Split split) _ _ decision = ⊥

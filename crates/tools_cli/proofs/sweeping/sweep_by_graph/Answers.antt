@@ -2,12 +2,12 @@ use Rattle.base_lists.proofs.Common.{◌≡◌, ◌∙◌, ap, ap₂, sym, Err, 
 use Rattle.dce_graph.specs.Prelude.{graph_result}
 use Rattle.dce_graph.specs.declared.point.Point.TheVariants.{Node}
 use Rattle.dce_spec.specs.Reached.{marks_of}
-use Rattle.tools_cli.specs.Prelude.{Text, decision_value, Reduces, Refuses, unused_lines, unmarked_names}
+use Rattle.tools_cli.specs.Prelude.{Text, decision_value, SweepsByGraph, Refuses, unused_lines, unmarked_names}
 use Rattle.tools_cli.specs.Command.{metadce_value}
 use Rattle.tools_cli.specs.Causes.{SweepFails}
 use Rattle.tools_cli.proofs.Loading.{stops_weaker}
 use Rattle.tools_cli.proofs.MetadceDecided.{sweep_refused, reduced_made}
-use Rattle.tools_cli.proofs.reducing.reduce_by.Goals as goal
+use Rattle.tools_cli.proofs.sweeping.sweep_by_graph.Goals as goal
 
 pub unused_lines-requires : goal.unused_lines-requires
 unused_lines-requires c = ap length c.as_slice-2.ensures ∙ c.in_ok-marks.ensures.exact.one_each (Node 0) ∙ sym (ap length c.as_slice.ensures)
@@ -17,7 +17,7 @@ returns-in_err-left-clause-stops c =
     let metadce = metadce_value c.args.metadce.now in
     let marks = c.in_ok-marks.marks in
     let graph = c.args.graph.now in
-    let Q : Text → Type 0 = λ says. (text : List ℕ) → graph_result text ≡ Ok graph → Reduces metadce c.args.module text (Refuses says) in
+    let Q : Text → Type 0 = λ says. (text : List ℕ) → graph_result text ≡ Ok graph → SweepsByGraph metadce c.args.module text (Refuses says) in
     let stop = c.in_err-left.field-0.0 in
     let gone : c.from_residual-in_err-left.result ≡ Err stop = grind arith in
     rw gone (stops_weaker (SweepFails (marks_of marks) c.args.module) Q (λ says h text is. sweep_refused metadce c.args.module text graph marks is c.in_ok-marks.ensures.exact says h) stop c.in_err-left.ensures.stops)

@@ -9,7 +9,7 @@ ghost use Rattle.dce_spec.specs.Reached.{marks_of};
 ghost use Rattle.dce_sweep.specs.Sweeps.{Sweeps};
 ghost use Rattle.tools_cli.specs.CommandLine.{Metadce};
 ghost use Rattle.tools_cli.specs.Command.{metadce_value, decision_value, input_texts, input_entries};
-ghost use Rattle.tools_cli.specs.Job.{Decides, Reduces, Refuses, GivesMarks, most_input};
+ghost use Rattle.tools_cli.specs.Job.{Decides, SweepsByGraph, Refuses, GivesMarks, most_input};
 ghost use Rattle.tools_cli.specs.Causes.{StopsWith, GraphFails, SweepFails, total};
 
 use crate::decide::{Decision, one_output};
@@ -63,15 +63,15 @@ fn sweep_by<'a>(alloc: Global, module: Valid, marks: &Reached) -> Result<Valid, 
 
 // Decides for one module and a graph. The decision is the same for every text that encodes this
 // graph.
-fn reduce_by<'a>(
+fn sweep_by_graph<'a>(
     alloc: Global,
     metadce: &MetadceTask<'a>,
     module: Valid,
     graph: &Graph,
 ) -> Result<Decision, Stop<'a>>
     requires { length graph.now.nodes < 2 ^ 32 }
-    ensures decided { IfOk result (λ decision. (text : List ℕ) → graph_result text ≡ Ok graph.now → Reduces (metadce_value metadce.now) «module» text (decision_value decision)) }
-    ensures stops { IfErr result (StopsWith (λ says. (text : List ℕ) → graph_result text ≡ Ok graph.now → Reduces (metadce_value metadce.now) «module» text (Refuses says))) }
+    ensures decided { IfOk result (λ decision. (text : List ℕ) → graph_result text ≡ Ok graph.now → SweepsByGraph (metadce_value metadce.now) «module» text (decision_value decision)) }
+    ensures stops { IfErr result (StopsWith (λ says. (text : List ℕ) → graph_result text ≡ Ok graph.now → SweepsByGraph (metadce_value metadce.now) «module» text (Refuses says))) }
 {
     let marks = marks_in(alloc, graph, &module)?;
     let lines = unused_lines(alloc, graph.nodes.as_slice(), marks.nodes.as_slice())?;
@@ -80,18 +80,18 @@ fn reduce_by<'a>(
 }
 
 // Decides for one module and the text of its graph file.
-fn reduce<'a>(
+fn sweep_one<'a>(
     alloc: Global,
     metadce: &MetadceTask<'a>,
     module: Valid,
     text: &[u8],
 ) -> Result<Decision, Stop<'a>>
     requires { length text.now < 2 ^ 32 }
-    ensures decided { IfOk result (λ decision. Reduces (metadce_value metadce.now) «module» text.now (decision_value decision)) }
-    ensures stops { IfErr result (StopsWith (λ says. Reduces (metadce_value metadce.now) «module» text.now (Refuses says))) }
+    ensures decided { IfOk result (λ decision. SweepsByGraph (metadce_value metadce.now) «module» text.now (decision_value decision)) }
+    ensures stops { IfErr result (StopsWith (λ says. SweepsByGraph (metadce_value metadce.now) «module» text.now (Refuses says))) }
 {
     let graph = graph_in(alloc, metadce.graph_file, text)?;
-    reduce_by(alloc, metadce, module, &graph)
+    sweep_by_graph(alloc, metadce, module, &graph)
 }
 
 /// Decides a `metadce` task, which has one module and, as its second file, the graph file.
@@ -110,5 +110,5 @@ pub(crate) fn decide_metadce<'a>(
     let Some(module) = modules.into_iter().next() else {
         unreachable!()
     };
-    reduce(alloc, metadce, module, inputs[1].bytes.as_slice())
+    sweep_one(alloc, metadce, module, inputs[1].bytes.as_slice())
 }

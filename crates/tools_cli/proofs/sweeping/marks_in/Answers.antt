@@ -1,7 +1,7 @@
 use Rattle.std.proofs.Common.{subst}
 use Rattle.wasm_valid.specs.Validity.{IsValid}
 use Rattle.tools_cli.proofs.MetadceDecided.{exact_marks, closed_marks}
-use Rattle.tools_cli.proofs.reducing.marks_in.Goals as goal
+use Rattle.tools_cli.proofs.sweeping.marks_in.Goals as goal
 
 pub returns-clause-exact : goal.returns-clause-exact
 returns-clause-exact c = exact_marks c.reached.result c.args.graph.now c.args.module.now c.reached.ensures.exactly c.reached.ensures.one_each
