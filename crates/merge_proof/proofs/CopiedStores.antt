@@ -33,12 +33,12 @@ module _ (env : Environment) (w : World) (insts : List Inst) (allocated : Store)
   pub fill_laws : (itself : CodeIsRelatedToItself) (below : StartDependsOnlyOnItsFrames) (extend : ExtensionLaws) (ticks : RelatedTicksAgree) (others : OthersStay) (view : List (Text × ExternalValue)) (view_is : all_there (seen_as insts) w.view ≡ Some view) →
       FillLaws env w insts allocated g itself below extend ticks others view view_is (FilledUpto env w.parts insts allocated)
   fill_laws itself below extend ticks others view view_is = record {
-    filled_none = FillSegments.filled_none env w.parts insts allocated stores_are g.size;
+    filled_none = SegmentsInTurn.filled_none env w.parts insts allocated stores_are g.size;
     filled_next = λ k m i t is_part is_inst h.
-        let n = FillNext.filled_next env w.parts insts g.are allocated stores_are each g.size g.exports g.earlier k m i is_part is_inst t (g.laid.adds k) (g.laid.part_adds k m i is_part is_inst) h (constants k m is_part) well in
+        let n = NextSegments.filled_next env w.parts insts g.are allocated stores_are each g.size g.exports g.earlier k m i is_part is_inst t (g.laid.adds k) (g.laid.part_adds k m i is_part is_inst) h (constants k m is_part) well in
         rw n.is (refl, n.filled);
     filled_all = λ k t l h none.
         let n : length w.parts - k + k ≡ length w.parts = omega arith in
-        ap (λ f. f.store) (FillSegments.filled_all env w.parts insts allocated stores_are g.size k t l h none) ∙ ap (joined_stores t) (rest_same (length w.parts - k) k n);
-    filled_sized = λ k t l h. FillGiven.filled_sized env w.parts insts g.are allocated stores_are each g.size g.exports g.earlier k t h;
+        ap (λ f. f.store) (SegmentsInTurn.filled_all env w.parts insts allocated stores_are g.size k t l h none) ∙ ap (joined_stores t) (rest_same (length w.parts - k) k n);
+    filled_sized = λ k t l h. StoreLayout.filled_sized env w.parts insts g.are allocated stores_are each g.size g.exports g.earlier k t h;
   }

@@ -52,13 +52,13 @@ table_filled s n a q t items at None h = stays s
 table_filled s n a q t items at (Some slots) h =
     let l = overwritten_length t.slots q items slots h in
     let s1 = changed s (SetTable a (record t { slots = slots })) in
-    Extends.and_then s s1 (changed s1 (DropElem n)) (changed_extends (table at (record { type = refl; most = refl; size = omega (arith, l) }))) (changed_extends {s = s1} {c = DropElem n} elem_drops)
+    StoreExtension.and_then s s1 (changed s1 (DropElem n)) (changed_extends (table at (record { type = refl; most = refl; size = omega (arith, l) }))) (changed_extends {s = s1} {c = DropElem n} elem_drops)
 
 memory_filled : (s : Store) (n a : ℕ) (m : Memory) → slice_get s.mems a ≡ Some m → (o : Option (List ℕ)) → Fills s (copy_bytes s n a m o)
 memory_filled s n a m at None = stays s
 memory_filled s n a m at (Some bytes) =
     let s1 = changed s (SetMemory a (record m { bytes = bytes })) in
-    Extends.and_then s s1 (changed s1 (DropData n)) (changed_extends (memory at (record { most = refl; size = omega arith }))) (changed_extends {s = s1} {c = DropData n} data_drops)
+    StoreExtension.and_then s s1 (changed s1 (DropData n)) (changed_extends (memory at (record { most = refl; size = omega arith }))) (changed_extends {s = s1} {c = DropData n} data_drops)
 
 module _ (value : ConstExpr → Option Val) where
   elem_run : (s : Store) (x : PlacedSegment ElemSeg) (mode : ElemMode) → Fills s (run_elem_with value s x mode)
@@ -79,7 +79,7 @@ then_fills s f g h next = by f.trapped
   where
     by : (b : Bool) → Fills s (cond b f (g f.store))
     by true = h
-    by false = Extends.and_then s f.store (g f.store).store h (next f.store)
+    by false = StoreExtension.and_then s f.store (g f.store).store h (next f.store)
 
 turn_fills : {A : Type 0} (run : Store → PlacedSegment A → Filled) → ((s : Store) (x : PlacedSegment A) → Fills s (run s x)) → (xs : List (PlacedSegment A)) (s : Store) → Fills s (one_by_one run s xs)
 turn_fills run h [] s = stays s
