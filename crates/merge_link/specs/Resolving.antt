@@ -10,7 +10,7 @@ use Rattle.merge_spec.specs.declared.links.Read.{Read}
 use Rattle.merge_spec.specs.Faults as faults
 use Rattle.merge_spec.specs.Prelude.{read_at, named_modules}
 use Rattle.merge_link.specs.declared.part_tables.Ending.{Ending}
-use Rattle.merge_link.specs.declared.resolving.Kept.{LinkedImports}
+use Rattle.merge_link.specs.declared.resolving.LinkedImports.{LinkedImports}
 use Rattle.merge_link.specs.declared.sites.Site.{Site}
 use Rattle.merge_link.specs.Gathering.{AreLinkedEnds}
 use Rattle.merge_link.specs.PartTables.{AreKnown}

@@ -1,4 +1,4 @@
-// Command lines, files and modules for the tests.
+// Command lines, files and modules for the tests of this crate and of binkit_tests.
 use std::alloc::Global;
 use std::test::Fail;
 use tool_io::{MemFiles, MemSink};
@@ -291,3 +291,24 @@ pub const LINKED: &str =
 
 // A function whose type has a result, and which returns none.
 pub const NOTHING_GIVEN: &str = "01 05 01 60 00 01 7F 03 02 01 00 0A 04 01 02 00 0B";
+
+// A function, exported as add, that adds its parameters. Its primary module calls it through a
+// trampoline.
+pub const ADDS: &str =
+    "01 07 01 60 02 7F 7F 01 7F 03 02 01 00 07 07 01 03 61 64 64 00 00 0A 09 01 07 00 20 00 20 01 6A 0B";
+
+pub const ADDS_PRIMARY: &str =
+    "01 07 01 60 02 7F 7F 01 7F 02 11 01 0B 70 6C 61 63 65 68 6F 6C 64 65 72 01 30 00 00 03 02 01 00 04 05 01 70 01 01 01 07 10 02 03 61 64 64 00 01 06 25 73 6C 6F 74 73 01 00 09 07 01 00 41 00 0B 01 00 0A 0D 01 0B 00 20 00 20 01 41 00 11 00 00 0B";
+
+pub const ADDS_SECONDARY: &str =
+    "01 07 01 60 02 7F 7F 01 7F 02 15 01 07 70 72 69 6D 61 72 79 06 25 73 6C 6F 74 73 01 70 01 01 01 03 02 01 00 09 07 01 00 41 00 0B 01 00 0A 09 01 07 00 20 00 20 01 6A 0B";
+
+// A function, exported as i, that copies from a segment.
+pub const COPIES: &str =
+    "01 04 01 60 00 00 03 02 01 00 05 03 01 00 01 07 05 01 01 69 00 00 0C 01 01 0A 0E 01 0C 00 41 00 41 00 41 00 FC 08 00 00 0B 0B 04 01 01 01 78";
+
+pub const COPIES_PRIMARY: &str =
+    "01 04 01 60 00 00 03 02 01 00 04 05 01 70 01 00 00 05 03 01 00 01 07 0E 02 01 69 00 00 06 25 73 6C 6F 74 73 01 00 09 06 01 00 41 00 0B 00 0C 01 01 0A 0E 01 0C 00 41 00 41 00 41 00 FC 08 00 00 0B 0B 04 01 01 01 78";
+
+pub const COPIES_SECONDARY: &str =
+    "01 04 01 60 00 00 02 15 01 07 70 72 69 6D 61 72 79 06 25 73 6C 6F 74 73 01 70 01 00 00 09 06 01 00 41 00 0B 00";

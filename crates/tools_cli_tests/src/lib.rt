@@ -1,12 +1,10 @@
-//! Tests of the commands over files and streams in memory.
+//! Tests of the commands over files and streams in memory: words, merges, sweeps, samples, refusals,
+//! and failing files and streams. `given` has what these tests and those of binkit_tests share.
 #![tactic(auto)]
 
 #[cfg(test)]
 mod broken;
-#[cfg(test)]
-mod ctor_eval;
-#[cfg(test)]
-mod given;
+pub mod given;
 #[cfg(test)]
 mod merges;
 #[cfg(test)]
@@ -17,7 +15,5 @@ mod outside;
 mod refusals;
 #[cfg(test)]
 mod sample;
-#[cfg(test)]
-mod split;
 #[cfg(test)]
 mod tests;

@@ -2,7 +2,6 @@ use crate::given::{
     A, CUT, HEADER, Ran, merge_one, run_line, run_words, two_files, with_file, words_of,
 };
 use crate::metadce::NO_SWEEP;
-use crate::split::NO_SPLIT;
 use std::alloc::Global;
 use std::test::Fail;
 use tool_io::MemFiles;
@@ -136,6 +135,37 @@ const NO_MERGE: [&str; 29] = [
     "merge h.wasm m -o o --out=o",
     "merge h.wasm m -o o --skip-export-conflicts --skip-export-conflicts",
     "merge h.wasm m -o o --skip-export-conflicts --rename-export-conflicts",
+];
+
+// Lines that are no split.
+const NO_SPLIT: [&str; 27] = [
+    "split",
+    "split s.wasm",
+    "split s.wasm --split-funcs=g --primary-output=p",
+    "split s.wasm --split-funcs=g --secondary-output=q",
+    "split s.wasm --split-funcs=g --primary-output=p --secondary-output=p",
+    "split s.wasm --primary-output=p --secondary-output=q",
+    "split --split-funcs=g --primary-output=p --secondary-output=q",
+    "split s.wasm t.wasm --split-funcs=g --primary-output=p --secondary-output=q",
+    "split '' --split-funcs=g --primary-output=p --secondary-output=q",
+    "split s.wasm --split-funcs=g --split-funcs=f --primary-output=p --secondary-output=q",
+    "split s.wasm --keep-funcs=g --keep-funcs g --primary-output=p --secondary-output=q",
+    "split s.wasm --split-funcs=g --primary-output=p --primary-output=r --secondary-output=q",
+    "split s.wasm --split-funcs=g --primary-output=p --secondary-output=q --secondary-output=q",
+    "split s.wasm --split-funcs=g --primary-output=p --secondary-output=q --import-namespace=i --import-namespace=i",
+    "split s.wasm --split-funcs=g --primary-output=p --secondary-output=q --placeholder-namespace=i --placeholder-namespace=j",
+    "split s.wasm --split-funcs=g --primary-output=p --secondary-output=q --export-prefix=i --export-prefix=j",
+    "split s.wasm --split-funcs= --primary-output=p --secondary-output=q",
+    "split s.wasm --keep-funcs '' --primary-output=p --secondary-output=q",
+    "split s.wasm --split-funcs=g --primary-output=p --secondary-output=q --export-prefix=",
+    "split s.wasm --primary-output=p --secondary-output=q --split-funcs",
+    "split s.wasm --split-funcs -g --primary-output=p --secondary-output=q",
+    "split s.wasm --split-funcs=g --primary-output=p --secondary-output=q -o o.wasm",
+    "split s.wasm --split-funcs=g --primary-output=p --secondary-output=q --output=o.wasm",
+    "split s.wasm --split-funcs=g --primary-output=p --secondary-output=q -g",
+    "split s.wasm --split=g --primary-output=p --secondary-output=q",
+    "split s.wasm --groups=m.json --primary-output=p",
+    "split s.wasm --split-funcs=g --primary-output=p --secondary-output=q --",
 ];
 
 // Lines of no command.

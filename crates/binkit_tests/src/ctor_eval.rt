@@ -1,11 +1,11 @@
 // Tests of `ctor-eval`.
-use crate::given::{
-    CUT, HEADER, LINKED, Ran, failing_files, run_line, run_line_failing, with_file, with_module,
-};
 use std::alloc::Global;
 use std::test::Fail;
 use tool_io::MemFiles;
 use tools_cli::Status;
+use tools_cli_tests::given::{
+    CUT, HEADER, LINKED, Ran, failing_files, run_line, run_line_failing, with_file, with_module,
+};
 
 // Three constructors: a stores 42 at 1024, b calls the import env.f, and c does nothing.
 const THREE: &str =

@@ -1,10 +1,11 @@
-use crate::given::{
-    CUT, HEADER, LINKED, NOTHING_GIVEN, Ran, module_of, module_of_tables, run_line, with_file,
-};
 use std::alloc::Global;
 use std::test::Fail;
 use tool_io::MemFiles;
 use tools_cli::Status;
+use tools_cli_tests::given::{
+    ADDS, ADDS_PRIMARY, ADDS_SECONDARY, COPIES, COPIES_PRIMARY, COPIES_SECONDARY, CUT, HEADER,
+    LINKED, NOTHING_GIVEN, Ran, module_of, module_of_tables, run_line, with_file,
+};
 
 // The module s.wasm, and an older file p.
 fn files_of(alloc: Global, module: &[u8]) -> Result<MemFiles, Fail> {
@@ -50,27 +51,6 @@ fn unlike_split(
     let ran = split_sections(alloc, module, words)?;
     unlike_two(alloc, &ran, lines, ("p", primary), ("q", secondary))
 }
-
-// A function, exported as add, that adds its parameters. Its primary module calls it through a
-// trampoline.
-pub const ADDS: &str =
-    "01 07 01 60 02 7F 7F 01 7F 03 02 01 00 07 07 01 03 61 64 64 00 00 0A 09 01 07 00 20 00 20 01 6A 0B";
-
-pub const ADDS_PRIMARY: &str =
-    "01 07 01 60 02 7F 7F 01 7F 02 11 01 0B 70 6C 61 63 65 68 6F 6C 64 65 72 01 30 00 00 03 02 01 00 04 05 01 70 01 01 01 07 10 02 03 61 64 64 00 01 06 25 73 6C 6F 74 73 01 00 09 07 01 00 41 00 0B 01 00 0A 0D 01 0B 00 20 00 20 01 41 00 11 00 00 0B";
-
-pub const ADDS_SECONDARY: &str =
-    "01 07 01 60 02 7F 7F 01 7F 02 15 01 07 70 72 69 6D 61 72 79 06 25 73 6C 6F 74 73 01 70 01 01 01 03 02 01 00 09 07 01 00 41 00 0B 01 00 0A 09 01 07 00 20 00 20 01 6A 0B";
-
-// A function, exported as i, that copies from a segment.
-pub const COPIES: &str =
-    "01 04 01 60 00 00 03 02 01 00 05 03 01 00 01 07 05 01 01 69 00 00 0C 01 01 0A 0E 01 0C 00 41 00 41 00 41 00 FC 08 00 00 0B 0B 04 01 01 01 78";
-
-pub const COPIES_PRIMARY: &str =
-    "01 04 01 60 00 00 03 02 01 00 04 05 01 70 01 00 00 05 03 01 00 01 07 0E 02 01 69 00 00 06 25 73 6C 6F 74 73 01 00 09 06 01 00 41 00 0B 00 0C 01 01 0A 0E 01 0C 00 41 00 41 00 41 00 FC 08 00 00 0B 0B 04 01 01 01 78";
-
-pub const COPIES_SECONDARY: &str =
-    "01 04 01 60 00 00 02 15 01 07 70 72 69 6D 61 72 79 06 25 73 6C 6F 74 73 01 70 01 00 00 09 06 01 00 41 00 0B 00";
 
 const LINKED_PRIMARY: &str =
     "01 0D 03 60 00 00 60 01 7F 01 7F 60 01 7F 00 02 1B 02 03 65 6E 76 03 6C 6F 67 00 02 0B 70 6C 61 63 65 68 6F 6C 64 65 72 01 30 00 01 03 05 04 00 00 01 01 04 09 02 70 01 05 05 70 01 01 01 05 03 01 00 02 06 08 01 7F 01 41 90 88 04 0B 07 2D 04 06 6D 65 6D 6F 72 79 02 00 11 5F 5F 77 61 73 6D 5F 63 61 6C 6C 5F 63 74 6F 72 73 00 02 03 72 75 6E 00 05 06 25 73 6C 6F 74 73 01 01 09 0F 02 00 41 01 0B 01 04 02 01 41 00 0B 00 01 01 0A 29 04 04 00 10 03 0B 0A 00 41 00 41 2A 36 02 84 08 0B 09 00 20 00 41 00 11 01 01 0B 0D 00 20 00 10 00 20 00 41 01 11 01 00 0B 0B 09 01 00 41 80 08 0B 02 68 69";
@@ -744,34 +724,3 @@ fn its_options_stand_anywhere_and_once(rt: HostRuntime) -> Result<(), Fail> {
     assert_eq!(rt; first_unlike_files(rt.alloc(), &ANYWHERE)?, ("", ""));
     Ok(())
 }
-
-// Lines that are no split.
-pub const NO_SPLIT: [&str; 27] = [
-    "split",
-    "split s.wasm",
-    "split s.wasm --split-funcs=g --primary-output=p",
-    "split s.wasm --split-funcs=g --secondary-output=q",
-    "split s.wasm --split-funcs=g --primary-output=p --secondary-output=p",
-    "split s.wasm --primary-output=p --secondary-output=q",
-    "split --split-funcs=g --primary-output=p --secondary-output=q",
-    "split s.wasm t.wasm --split-funcs=g --primary-output=p --secondary-output=q",
-    "split '' --split-funcs=g --primary-output=p --secondary-output=q",
-    "split s.wasm --split-funcs=g --split-funcs=f --primary-output=p --secondary-output=q",
-    "split s.wasm --keep-funcs=g --keep-funcs g --primary-output=p --secondary-output=q",
-    "split s.wasm --split-funcs=g --primary-output=p --primary-output=r --secondary-output=q",
-    "split s.wasm --split-funcs=g --primary-output=p --secondary-output=q --secondary-output=q",
-    "split s.wasm --split-funcs=g --primary-output=p --secondary-output=q --import-namespace=i --import-namespace=i",
-    "split s.wasm --split-funcs=g --primary-output=p --secondary-output=q --placeholder-namespace=i --placeholder-namespace=j",
-    "split s.wasm --split-funcs=g --primary-output=p --secondary-output=q --export-prefix=i --export-prefix=j",
-    "split s.wasm --split-funcs= --primary-output=p --secondary-output=q",
-    "split s.wasm --keep-funcs '' --primary-output=p --secondary-output=q",
-    "split s.wasm --split-funcs=g --primary-output=p --secondary-output=q --export-prefix=",
-    "split s.wasm --primary-output=p --secondary-output=q --split-funcs",
-    "split s.wasm --split-funcs -g --primary-output=p --secondary-output=q",
-    "split s.wasm --split-funcs=g --primary-output=p --secondary-output=q -o o.wasm",
-    "split s.wasm --split-funcs=g --primary-output=p --secondary-output=q --output=o.wasm",
-    "split s.wasm --split-funcs=g --primary-output=p --secondary-output=q -g",
-    "split s.wasm --split=g --primary-output=p --secondary-output=q",
-    "split s.wasm --groups=m.json --primary-output=p",
-    "split s.wasm --split-funcs=g --primary-output=p --secondary-output=q --",
-];

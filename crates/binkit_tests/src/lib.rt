@@ -1,0 +1,7 @@
+//! Tests of the commands `split` and `ctor-eval` over files and streams in memory.
+#![tactic(auto)]
+
+#[cfg(test)]
+mod ctor_eval;
+#[cfg(test)]
+mod split;
