@@ -1,7 +1,9 @@
-//! Tests of the commands `split` and `ctor-eval` over files and streams in memory.
+//! Tests of the commands `split`, `metadce` and `ctor-eval` over files and streams in memory.
 #![tactic(auto)]
 
 #[cfg(test)]
 mod ctor_eval;
+#[cfg(test)]
+mod metadce;
 #[cfg(test)]
 mod split;

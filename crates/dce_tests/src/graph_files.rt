@@ -150,8 +150,10 @@ fn nesting_of_127_is_read_and_of_128_is_not(rt: HostRuntime) -> Result<(), Fail>
     Ok(())
 }
 
-const ENTRIES: &[u8] =
-    b"[{\"name\":\"a\",\"root\":true,\"reaches\":[\"c\",\"a\"],\"export\":\"e\",\"x\":[0e999,-0,18446744073709551616]},{\"name\":\"b\",\"import\":[\"m\",\"f\"],\"root\":false},{\"name\":\"c\",\"name\":\"c\"}]";
+const ENTRIES: &[u8] = b"\
+    [{\"name\":\"a\",\"root\":true,\"reaches\":[\"c\",\"a\"],\"export\":\"e\",\"x\":[0e999,-0,\
+    18446744073709551616]},{\"name\":\"b\",\"import\":[\"m\",\"f\"],\"root\":false},\
+    {\"name\":\"c\",\"name\":\"c\"}]";
 
 // Whether node 0 is a root named a that reaches nodes 2 and 0 and denotes an export and no import.
 fn has_first(graph: &Graph) -> bool {

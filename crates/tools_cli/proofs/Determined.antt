@@ -2,7 +2,8 @@
 use Rattle.base_lists.proofs.Common.{Bool, take, zero, suc, ltb, ◌-◌, ◌↔◌, ◌≡◌, ◌∙◌, sym, refl, ap, ap₂, subst, inl, inr, ℕ, List, [], ◌∷◌, Option, Some, None, Result, Ok, Err, false, length, get}
 use Rattle.wasm_bytes.specs.Prelude.{IsBytes}
 use Rattle.tool_io.specs.FilesAndSinks.{FileContents}
-use Rattle.tools_cli.specs.Prelude.{Text, MergeTask, Task, Merge, Metadce, Split, CtorEval, Sample, source_files, many_of, modules_of, inputs_of, NamedFile, fault_text, link_text, over_limit, IsReadAs, IsAccepted, invalid, Job, Refused, Gathered, add_first, add_file, Whole, Lacks, TooLong, gathered}
+use Rattle.tools_cli.specs.Prelude.{Text, MergeTask, Task, Merge, Metadce, Split, CtorEval, Sample, source_files, many_of, modules_of, inputs_of, NamedFile, fault_text, link_text, over_limit, IsReadAs, IsAccepted, invalid, Job, Refused}
+use Rattle.tools_cli.specs.Prelude.{Gathered, add_first, add_file, Whole, Lacks, TooLong, gathered}
 use Rattle.tools_cli.specs.Prelude.{most_input, LoadsFile, loaded, faulty, AllLoad, OneFails, Decision, Refuses, Makes, Merges, not_linked, not_joined, merged, parts_of, Decides, job_of, module_files, contents_of, InputsJob, not_loaded, decided, TaskJob, not_begun, missing, too_long, all_read}
 use Rattle.tools_cli.specs.Prelude.{HasJob, no_task, asked}
 use Rattle.tools_cli.specs.Texts.{invalid_text, join_text}

@@ -8,7 +8,8 @@ use Rattle.std.specs.Cmp.{eq_by_cmp_equiv}
 use Rattle.std.proofs.lemmas.Cmp.{nat_list_cmp_total}
 use Rattle.tool_io.specs.FilesAndSinks.{FileContents}
 use Rattle.tools_cli.specs.Prelude.{Text, Source, MergeTask, MetadceTask, SplitTask, CtorEvalTask, SampleTask, Task, Merge, Metadce, Split, CtorEval, Sample, task_of, many_of, modules_of, texts_of, inputs_of, are_apart, NamedFile, made, IsReadAs, IsAccepted, Job, Usage, Refused, Done, Gathered}
-use Rattle.tools_cli.specs.Prelude.{Whole, Lacks, TooLong, add_first, add_file, gathered, most_input, most_output, LoadsFile, loaded, faulty, invalid, AllLoad, Output, Decision, Refuses, Makes, Merges, not_linked, not_joined, merged, SweepsByGraph, no_graph, not_swept, swept_by_marks, words_plan, Splits}
+use Rattle.tools_cli.specs.Prelude.{Whole, Lacks, TooLong, add_first, add_file, gathered, most_input, most_output, LoadsFile, loaded, faulty, invalid, AllLoad, Output, Decision, Refuses, Makes, Merges, not_linked, not_joined}
+use Rattle.tools_cli.specs.Prelude.{merged, SweepsByGraph, no_graph, not_swept, swept_by_marks, words_plan, Splits}
 use Rattle.tools_cli.specs.Prelude.{no_plan, not_parted, parted, Evaluates, not_evaluated, evaluated, Samples, not_merged, sampled, sample_merge, sample_parts, Decides, is_within, spelled_output, job_of, module_files, contents_of, parts_of, AreMerged, InputsJob, not_loaded, decided, TaskJob}
 use Rattle.tools_cli.specs.Prelude.{not_begun, missing, too_long, all_read, HasJob, no_task, asked}
 use Rattle.merge_names.specs.declared.mode.Mode.{Mode}

@@ -4,8 +4,10 @@ pub use Rattle.tools_cli.specs.Command.{decision_value, input_entries, input_ent
 pub use Rattle.tools_cli.specs.CommandLine.{CtorEval, CtorEvalTask, Merge, MergeTask, Metadce, MetadceTask, Sample, SampleTask, Source, Split, SplitTask, Task, Text, are_apart, inputs_of, many_of}
 pub use Rattle.tools_cli.specs.CommandLine.{modules_of, source_files, task_of, texts_of}
 pub use Rattle.tools_cli.specs.Effects.{NamedFile, AreWrittenInPart, made, written_names}
-pub use Rattle.tools_cli.specs.Job.{AllLoad, AreMerged, Decides, Decision, Done, Evaluates, Gathered, HasJob, InputsJob, IsAccepted, IsReadAs, Job, Lacks, LoadsFile, Makes, Merges, OneFails, Output}
-pub use Rattle.tools_cli.specs.Job.{SweepsByGraph, Refused, Refuses, Samples, Splits, TaskJob, TooLong, Usage, Whole, add_file, add_first, all_read, asked, contents_of, decided, evaluated, faulty, gathered}
+pub use Rattle.tools_cli.specs.Job.{AllLoad, AreMerged, Decides, Decision, Done, Evaluates, Gathered, HasJob, InputsJob, IsAccepted, IsReadAs, Job, Lacks}
+pub use Rattle.tools_cli.specs.Job.{LoadsFile, Makes, Merges, OneFails, Output}
+pub use Rattle.tools_cli.specs.Job.{SweepsByGraph, Refused, Refuses, Samples, Splits, TaskJob, TooLong, Usage, Whole, add_file, add_first, all_read, asked}
+pub use Rattle.tools_cli.specs.Job.{contents_of, decided, evaluated, faulty, gathered}
 pub use Rattle.tools_cli.specs.Job.{invalid, is_within, job_of, loaded, merged, missing, module_files, most_input, most_output, no_graph, no_plan, no_task, not_begun, not_evaluated, not_joined}
 pub use Rattle.tools_cli.specs.Job.{not_linked, not_loaded, not_merged, not_parted, not_swept, parted, parts_of, swept_by_marks, refused_before, sample_merge, sample_modules, sample_parts, sampled}
 pub use Rattle.tools_cli.specs.Job.{spelled_output, too_long, words_plan}

@@ -1,5 +1,5 @@
-//! Tests of the commands over files and streams in memory: words, merges, sweeps, samples, refusals,
-//! and failing files and streams. `given` has what these tests and those of binkit_tests share.
+//! Tests of the commands over files and streams in memory: words, merges, samples, refusals, and
+//! failing files and streams. `given` has what these tests and those of binkit_tests share.
 #![tactic(auto)]
 
 #[cfg(test)]
@@ -7,8 +7,6 @@ mod broken;
 pub mod given;
 #[cfg(test)]
 mod merges;
-#[cfg(test)]
-mod metadce;
 #[cfg(test)]
 mod outside;
 #[cfg(test)]

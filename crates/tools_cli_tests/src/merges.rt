@@ -328,8 +328,16 @@ fn as_many_tables_as_the_limit_are_written(rt: HostRuntime) -> Result<(), Fail> 
 
 // A module as a linker leaves it, with padded indices, a name section and a producers section. All
 // but the code and these two sections is unchanged in the output.
-const BEFORE_CODE: &str =
-    "01 0D 03 60 00 00 60 01 7F 01 7F 60 01 7F 00 02 0B 01 03 65 6E 76 03 6C 6F 67 00 02 03 05 04 00 00 01 01 04 05 01 70 01 05 05 05 03 01 00 02 06 08 01 7F 01 41 90 88 04 0B 07 24 03 06 6D 65 6D 6F 72 79 02 00 11 5F 5F 77 61 73 6D 5F 63 61 6C 6C 5F 63 74 6F 72 73 00 01 03 72 75 6E 00 04 09 07 01 00 41 01 0B 01 03";
+const BEFORE_CODE: &str = "\
+    01 0D 03 60 00 00 60 01 7F 01 7F 60 01 7F 00 \
+    02 0B 01 03 65 6E 76 03 6C 6F 67 00 02 \
+    03 05 04 00 00 01 01 \
+    04 05 01 70 01 05 05 \
+    05 03 01 00 02 \
+    06 08 01 7F 01 41 90 88 04 0B \
+    07 24 03 06 6D 65 6D 6F 72 79 02 00 11 5F 5F 77 61 73 6D 5F 63 61 6C 6C 5F 63 74 6F 72 73 00 \
+    01 03 72 75 6E 00 04 \
+    09 07 01 00 41 01 0B 01 03";
 
 const PADDED_CODE: &str =
     "0A 33 04 08 00 10 82 80 80 80 00 0B 0A 00 41 00 41 2A 36 02 84 08 0B 07 00 20 00 41 01 74 0B 15 00 20 00 10 80 80 80 80 00 20 00 41 01 11 81 80 80 80 00 00 0B";
@@ -339,8 +347,10 @@ const SHORT_CODE: &str =
 
 const DATA: &str = "0B 09 01 00 41 80 08 0B 02 68 69";
 
-const CUSTOM: &str =
-    "00 32 04 6E 61 6D 65 01 2B 05 00 03 6C 6F 67 01 11 5F 5F 77 61 73 6D 5F 63 61 6C 6C 5F 63 74 6F 72 73 02 04 69 6E 69 74 03 05 74 77 69 63 65 04 03 72 75 6E 00 0B 09 70 72 6F 64 75 63 65 72 73 00";
+const CUSTOM: &str = "\
+    00 32 04 6E 61 6D 65 01 2B 05 00 03 6C 6F 67 01 11 5F 5F 77 61 73 6D 5F 63 61 6C 6C 5F 63 74 \
+    6F 72 73 02 04 69 6E 69 74 03 05 74 77 69 63 65 04 03 72 75 6E \
+    00 0B 09 70 72 6F 64 75 63 65 72 73 00";
 
 // Merges this module alone.
 fn merge_linked(alloc: Global) -> Result<Ran, Fail> {

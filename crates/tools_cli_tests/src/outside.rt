@@ -1,10 +1,10 @@
 // Single calls of files and streams that fail, and files that are too large.
 use crate::given::{
-    ADDS, ADDS_PRIMARY, ADDS_SECONDARY, COPIES, COPIES_PRIMARY, COPIES_SECONDARY, GIVES, Ran,
-    failing_files, module_of, run_line, run_line_failing, two_files, with_file, with_module, zeros,
+    ADDS, ADDS_PRIMARY, ADDS_SECONDARY, CALLS_BACK, COPIES, COPIES_PRIMARY, COPIES_SECONDARY,
+    GIVES, HOST, LEFT, Ran, failing_files, module_of, run_line, run_line_failing, two_files,
+    with_file, with_module, zeros,
 };
 use crate::merges::{BOTH, CALLS};
-use crate::metadce::{CALLS_BACK, HOST, LEFT};
 use std::alloc::Global;
 use std::test::Fail;
 use tool_io::MemFiles;

@@ -12,8 +12,12 @@ const MERGED: &str =
     "01 06 01 60 01 7F 01 7F 03 03 02 00 00 07 0B 02 02 66 30 00 00 02 67 30 00 01 0A 14 02 0B 00 20 00 41 A6 FD 99 8E 04 6A 0B 06 00 20 00 10 00 0B";
 
 // The merged module for seed 7 and two functions each.
-const MERGED_OF_TWO: &str =
-    "01 06 01 60 01 7F 01 7F 03 05 04 00 00 00 00 07 15 04 02 66 30 00 00 02 66 31 00 01 02 67 30 00 02 02 67 31 00 03 0A 27 04 0B 00 20 00 41 B4 AA B1 E3 04 6A 0B 0B 00 20 00 41 D2 A1 D1 D3 02 6A 0B 06 00 20 00 10 00 0B 06 00 20 00 10 01 0B";
+const MERGED_OF_TWO: &str = "\
+    01 06 01 60 01 7F 01 7F \
+    03 05 04 00 00 00 00 \
+    07 15 04 02 66 30 00 00 02 66 31 00 01 02 67 30 00 02 02 67 31 00 03 \
+    0A 27 04 0B 00 20 00 41 B4 AA B1 E3 04 6A 0B 0B 00 20 00 41 D2 A1 D1 D3 02 6A 0B 06 00 20 00 \
+    10 00 0B 06 00 20 00 10 01 0B";
 
 // Runs a line over no file.
 fn run_alone(alloc: Global, line: &str) -> Result<Ran, Fail> {

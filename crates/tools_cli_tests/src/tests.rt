@@ -1,7 +1,6 @@
 use crate::given::{
     A, CUT, HEADER, Ran, merge_one, run_line, run_words, two_files, with_file, words_of,
 };
-use crate::metadce::NO_SWEEP;
 use std::alloc::Global;
 use std::test::Fail;
 use tool_io::MemFiles;
@@ -166,6 +165,25 @@ const NO_SPLIT: [&str; 27] = [
     "split s.wasm --split=g --primary-output=p --secondary-output=q",
     "split s.wasm --groups=m.json --primary-output=p",
     "split s.wasm --split-funcs=g --primary-output=p --secondary-output=q --",
+];
+
+// Lines that are no metadce.
+const NO_SWEEP: [&str; 15] = [
+    "metadce",
+    "metadce m.wasm -o o.wasm",
+    "metadce m.wasm --graph-file g.json",
+    "metadce --graph-file g.json -o o.wasm",
+    "metadce m.wasm n.wasm --graph-file g.json -o o.wasm",
+    "metadce m.wasm --graph-file g.json -o o.wasm --output=p.wasm",
+    "metadce m.wasm --graph-file g.json --graph-file g.json -o o.wasm",
+    "metadce m.wasm --graph-file= -o o.wasm",
+    "metadce m.wasm --graph-file -o o.wasm",
+    "metadce m.wasm --graph-file g.json -o",
+    "metadce m.wasm --graph g.json -o o.wasm",
+    "metadce m.wasm --graph-file g.json -o=o.wasm",
+    "metadce m.wasm --graph-file g.json -o o.wasm --skip-export-conflicts",
+    "metadce '' --graph-file g.json -o o.wasm",
+    "metadce m.wasm --graph-file g.json -o o.wasm --",
 ];
 
 // Lines of no command.

@@ -1,20 +1,9 @@
-use crate::given::{CUT, LINKED, NOTHING_GIVEN, Ran, module_of, run_line, with_file, zeros};
 use std::alloc::Global;
 use std::test::Fail;
 use tool_io::MemFiles;
-
-// The import env.cb, and functions 1 to 3, exported as a, b and c. Function 1 calls the import and
-// names function 3.
-pub const CALLS_BACK: &str =
-    "01 04 01 60 00 00 02 0A 01 03 65 6E 76 02 63 62 00 00 03 04 03 00 00 00 07 0D 03 01 61 00 01 01 62 00 02 01 63 00 03 0A 0F 03 07 00 10 00 D2 03 1A 0B 02 00 0B 02 00 0B";
-
-// A host that uses a, and that calls b when the module calls it back.
-pub const HOST: &str =
-    "[{\"name\":\"out\",\"root\":true,\"reaches\":[\"A\"]},{\"name\":\"A\",\"export\":\"a\"},{\"name\":\"cb\",\"import\":[\"env\",\"cb\"],\"reaches\":[\"B\"]},{\"name\":\"B\",\"export\":\"b\"},{\"name\":\"C\",\"export\":\"c\"}]";
-
-// What is left for HOST: the export c is gone, and function 3 is declared.
-pub const LEFT: &str =
-    "01 04 01 60 00 00 02 0A 01 03 65 6E 76 02 63 62 00 00 03 04 03 00 00 00 07 09 02 01 61 00 01 01 62 00 02 09 05 01 03 00 01 03 0A 0F 03 07 00 10 00 D2 03 1A 0B 02 00 0B 02 00 0B";
+use tools_cli_tests::given::{
+    CALLS_BACK, CUT, HOST, LEFT, LINKED, NOTHING_GIVEN, Ran, module_of, run_line, with_file, zeros,
+};
 
 const LINE: &str = "metadce m.wasm --graph-file=g.json -o o.wasm";
 
@@ -104,14 +93,24 @@ fn what_no_path_reaches_is_left_out_and_told(rt: HostRuntime) -> Result<(), Fail
 }
 
 // What is left of a linker's module, for a host that uses its memory and run.
-const LINKED_LEFT: &str =
-    "01 0D 03 60 00 00 60 01 7F 01 7F 60 01 7F 00 02 0B 01 03 65 6E 76 03 6C 6F 67 00 02 03 03 02 01 01 04 05 01 70 01 05 05 05 03 01 00 02 07 10 02 06 6D 65 6D 6F 72 79 02 00 03 72 75 6E 00 02 09 07 01 00 41 01 0B 01 01 0A 17 02 07 00 20 00 41 01 74 0B 0D 00 20 00 10 00 20 00 41 01 11 01 00 0B 0B 09 01 00 41 80 08 0B 02 68 69";
+const LINKED_LEFT: &str = "\
+    01 0D 03 60 00 00 60 01 7F 01 7F 60 01 7F 00 \
+    02 0B 01 03 65 6E 76 03 6C 6F 67 00 02 \
+    03 03 02 01 01 \
+    04 05 01 70 01 05 05 \
+    05 03 01 00 02 \
+    07 10 02 06 6D 65 6D 6F 72 79 02 00 03 72 75 6E 00 02 \
+    09 07 01 00 41 01 0B 01 01 \
+    0A 17 02 07 00 20 00 41 01 74 0B 0D 00 20 00 10 00 20 00 41 01 11 01 00 0B \
+    0B 09 01 00 41 80 08 0B 02 68 69";
 
 #[test]
 fn a_module_as_a_linker_leaves_it_is_swept(rt: HostRuntime) -> Result<(), Fail> {
     let alloc = rt.alloc();
-    let graph =
-        "[{\"name\":\"main\",\"root\":true,\"reaches\":[\"run\",\"mem\"]},{\"name\":\"run\",\"export\":\"run\"},{\"name\":\"mem\",\"export\":\"memory\"},{\"name\":\"ctors\",\"export\":\"__wasm_call_ctors\"}]";
+    let graph = "\
+        [{\"name\":\"main\",\"root\":true,\"reaches\":[\"run\",\"mem\"]},\
+        {\"name\":\"run\",\"export\":\"run\"},{\"name\":\"mem\",\"export\":\"memory\"},\
+        {\"name\":\"ctors\",\"export\":\"__wasm_call_ctors\"}]";
     let unlike = unlike_left(alloc, LINKED, graph, "unused: ctors\n", LINKED_LEFT)?;
     assert_eq!(rt; unlike, "");
     Ok(())
@@ -314,22 +313,3 @@ fn its_options_stand_anywhere_and_once(rt: HostRuntime) -> Result<(), Fail> {
     assert_eq!(rt; first_unlike_for_the_host(rt.alloc(), &ANYWHERE)?, ("", ""));
     Ok(())
 }
-
-// Lines that are no metadce.
-pub const NO_SWEEP: [&str; 15] = [
-    "metadce",
-    "metadce m.wasm -o o.wasm",
-    "metadce m.wasm --graph-file g.json",
-    "metadce --graph-file g.json -o o.wasm",
-    "metadce m.wasm n.wasm --graph-file g.json -o o.wasm",
-    "metadce m.wasm --graph-file g.json -o o.wasm --output=p.wasm",
-    "metadce m.wasm --graph-file g.json --graph-file g.json -o o.wasm",
-    "metadce m.wasm --graph-file= -o o.wasm",
-    "metadce m.wasm --graph-file -o o.wasm",
-    "metadce m.wasm --graph-file g.json -o",
-    "metadce m.wasm --graph g.json -o o.wasm",
-    "metadce m.wasm --graph-file g.json -o=o.wasm",
-    "metadce m.wasm --graph-file g.json -o o.wasm --skip-export-conflicts",
-    "metadce '' --graph-file g.json -o o.wasm",
-    "metadce m.wasm --graph-file g.json -o o.wasm --",
-];
