@@ -6,7 +6,8 @@ ghost use Rattle.eval_proof.specs.Budgets.{EvaluationIsMonotoneInTheBudget};
 ghost use Rattle.eval_proof.specs.KnownQuietSteps.{QuietCallsAreKnown, QuietStepsAreKnown};
 ghost use Rattle.eval_proof.specs.QuietCalls.{QuietCallsSimulate};
 ghost use Rattle.eval_proof.specs.QuietInstantiations.{InstantiationsAreTheMachines};
-ghost use Rattle.eval_proof.specs.EndsAndCounts.{CountedAreQuiet, EndsAreReached, EvaluationsEnd, NoneCountedBefore, NothingStopsQuiet, QuietAreCounted, QuietEndsAreUnique, QuietWhereNothingStops, RunsEnd};
+ghost use Rattle.eval_proof.specs.EndsAndCounts.{CountedAreQuiet, EndsAreReached, EvaluationsEnd, NoneCountedBefore};
+ghost use Rattle.eval_proof.specs.EndsAndCounts.{NothingStopsQuiet, QuietAreCounted, QuietEndsAreUnique, QuietWhereNothingStops, RunsEnd};
 
 use run_simulation::steps_agree_off_unknown_places;
 use wasm_meaning::steps_write_only_touched_places;

@@ -2,7 +2,8 @@
 use Rattle.base_lists.proofs.Common.{◌≡◌, ℕ, List, [], ◌∷◌, ◌++◌, true, refl, sym, ◌∙◌, ap, subst, append-nil, slice_get, there, same_there}
 use Rattle.std.proofs.lemmas.Bool.{true≢false}
 use Rattle.wasm_meaning.specs.Prelude.{Outcome, Gives, bind, Val, Store, Frame, Entry, Running, Mark, Opening, Waiting, Ended, Growing, Caller, Host, Starter, Act, Ends, Next, pop_typed, enter_at, give, act, perform, step, to_mark}
-use Rattle.run_simulation.specs.Prelude.{Pairing, OneToOneWhereWritten, BothRel, ResRel, done, trap, wrong, ListRel, nil, cons, ValRel, FuncRel, StoreRel, FrameRel, EntryRel, running, mark, opening, waiting, ended, growing, goes, calls, asks_grow, ends, NextRel, ran, asked, asked_grow, loads, returned}
+use Rattle.run_simulation.specs.Prelude.{Pairing, OneToOneWhereWritten, BothRel, ResRel, done, trap, wrong, ListRel, nil, cons, ValRel, FuncRel, StoreRel, FrameRel, EntryRel}
+use Rattle.run_simulation.specs.Prelude.{running, mark, opening, waiting, ended, growing, goes, calls, asks_grow, ends, NextRel, ran, asked, asked_grow, loads, returned}
 use Rattle.run_simulation.specs.Prelude.{NotOpaque, TopSkips, Above, Touches, EntriesKnown, Unknowns, none_unknown, StoreRelOff, StepReadsKnown, left_after, left_unknown, ActOff, NextOff}
 use Rattle.run_simulation.specs.Related.{NextRelBy}
 use Rattle.run_simulation.specs.Laws.{NeedsBelow, ends_trap, NoMark}

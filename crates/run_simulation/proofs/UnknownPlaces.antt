@@ -3,7 +3,8 @@ use Rattle.base_lists.proofs.Common.{◌≡◌, ◌∙◌, refl, sym, ap, subst,
 use Rattle.base_lists.specs.Members.{is_among}
 use Rattle.wasm_tree_spec.specs.Prelude.{Tables, Memories, Globals, ElementSegments, DataSegments}
 use Rattle.wasm_meaning.specs.Prelude.{Outcome, Gives, Traps, IllTyped, Inst, Table, Global, Elem, Store, Entry, Running, Mark, Opening, Waiting, Ended, Growing, Change, Keep, SetGlobal, SetMemory, SetTable, DropElem, DropData, Act, Goes, Calls, AsksGrow, Ends, act, changed, no_items, no_bytes}
-use Rattle.run_simulation.specs.Prelude.{Pairing, OneToOneWhereWritten, BothRel, both, nil, TableRel, GlobalRel, StoreRel, ChangeRel, keep, set_global, set_memory, set_table, drop_elem, drop_data, ActRel, goes, calls, asks_grow, ends, passed, Unknowns, none_unknown, is_place_among, GlobalOff, RefsOff}
+use Rattle.run_simulation.specs.Prelude.{Pairing, OneToOneWhereWritten, BothRel, both, nil, TableRel, GlobalRel, StoreRel, ChangeRel, keep, set_global, set_memory, set_table}
+use Rattle.run_simulation.specs.Prelude.{drop_elem, drop_data, ActRel, goes, calls, asks_grow, ends, passed, Unknowns, none_unknown, is_place_among, GlobalOff, RefsOff}
 use Rattle.run_simulation.specs.Prelude.{TableOff, StoreRelOff, ReadPlace, ReadsNothing, ReadsGlobal, ReadsSlots, ReadsItems, IsKnown, left_by, left_after, left_unknown, known, ActOff}
 use Rattle.run_simulation.specs.UnknownPlaces.{learnt, NothingUnknown, SetGlobalsAreKnown, ChangeOff, off_slots}
 use Rattle.run_simulation.proofs.RelatedOutcomes.{write_each, write_rel}

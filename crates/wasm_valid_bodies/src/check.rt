@@ -24,7 +24,8 @@ fn step<'a>(
     stack: &mut OperandStack,
     instr: &'a Instr,
 ) -> Result<bool, AllocError>
-    ensures typed { IfOk result (λ ok. TracksStep (Fits (context_of scope.now (label_list labels.old)) instr.now) (stack_of stack.old) stack.old.any_below (stack_of stack.new) stack.new.any_below ok) }
+    ensures typed { IfOk result (λ ok. TracksStep (Fits (context_of scope.now (label_list labels.old)) instr.now)
+        (stack_of stack.old) stack.old.any_below (stack_of stack.new) stack.new.any_below ok) }
     ensures labels { IfOk result (λ ok. OnTrue ok (label_list labels.new ≡ label_list labels.old)) }
     ensures beneath { IfOk result (λ ok. OnTrue ok (beneath stack.new ≡ beneath stack.old)) }
 {

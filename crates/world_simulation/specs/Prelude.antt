@@ -3,7 +3,8 @@ pub use Rattle.world_simulation.specs.ModulesAlone.{addresses, external_value_in
 pub use Rattle.world_simulation.specs.AllocatedParts.{Adds, AddsWith, AllocatedStoresHaveDefinitions, Allocates, HasDefinitions, PartsAddWhatCanBeAllocated, added_store}
 pub use Rattle.world_simulation.specs.SegmentsByPart.{DatasAreListedByPart, ElemsAreListedByPart, segments_by_part}
 pub use Rattle.world_simulation.specs.DeclaredReferences.{DeclaringAddsASegment, DeclaringSegmentsAreAllocated, IsWithDeclared, last_segments}
-pub use Rattle.world_simulation.specs.CorrespondingDefinitions.{DefinedAt, DefinitionsCorrespond, ElemsAlike, ElemsCorrespond, FuncsAt, FuncsCorrespond, GlobalsCorrespond, Instantiated, Partners, is_declarative}
+pub use Rattle.world_simulation.specs.CorrespondingDefinitions.{DefinedAt, DefinitionsCorrespond, ElemsAlike, ElemsCorrespond, FuncsAt}
+pub use Rattle.world_simulation.specs.CorrespondingDefinitions.{FuncsCorrespond, GlobalsCorrespond, Instantiated, Partners, is_declarative}
 pub use Rattle.world_simulation.specs.CorrespondingDefinitions.{values_in}
 pub use Rattle.world_simulation.specs.IndexSpaces.{EachInst, EachPartHasAnInstance, SpaceEntry, IndicesNameImportsOrDefinitions, IsInst, IsSpace, SpacesAreImportsAndDefinitions, defines}
 pub use Rattle.world_simulation.specs.IndexSpaces.{import_address, imports}
