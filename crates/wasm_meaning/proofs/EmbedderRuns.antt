@@ -1,16 +1,16 @@
 -- The moves of an embedder, computed: it extends its own tables and memories, passes and calls its
 -- own functions and those that it was shown, and makes moves that are not taken.
-use Rattle.base_lists.proofs.Common.{◌≡◌, refl, [], ◌∷◌, Some, None, false}
+use Rattle.base_lists.proofs.Common.{◌≡◌, refl, [], ◌∷◌, Some, None, true, false}
 use Rattle.wasm_tree.specs.declared.types.RefType.TheVariants as reft
 use Rattle.wasm_tree.specs.declared.types.ValType.TheVariants as valt
 use Rattle.wasm_tree.specs.declared.instr.Instr.{out-Instr}
 use Rattle.wasm_tree.specs.declared.instr.Instr.TheVariants as i
 use Rattle.wasm_tree.specs.declared.module.ImportDesc.TheVariants as im
 use Rattle.wasm_tree.specs.declared.module.ExportDesc.TheVariants as ex
-use Rattle.wasm_tree_spec.specs.Prelude.{Module}
+use Rattle.wasm_tree_spec.specs.Prelude.{ValType, Module}
 use Rattle.wasm_num.specs.Operations.{wrapped, un_from, un_to, un_value, bin_from, bin_to, bin_value}
 use Rattle.wasm_meaning.specs.Access.{load_to, load_width, loaded, store_from, stored}
-use Rattle.wasm_meaning.specs.Prelude.{Environment, Shown, Number, Null, OwnFunc, Function, World, Linked, Returned, Trapped, Asked, Got, Done, BadMove, Call, Invoke, Take, Answer, Refuse, Grant, Deny, Get, Size, Set, Extend, TableOf, MemoryOf, GlobalOf, Named, events}
+use Rattle.wasm_meaning.specs.Prelude.{Environment, Shown, Number, Null, OwnFunc, ExternNumber, Function, World, Linked, Returned, Trapped, Asked, Got, Done, BadMove, Call, Invoke, Take, Answer, Refuse, Grant, Deny, Get, Size, Set, Extend, TableOf, MemoryOf, GlobalOf, Named, events}
 use Rattle.wasm_meaning.proofs.SmallRuns.{f, g, e, m, i32, to_i32, empty, code, num, gives, plain, own, importing}
 
 -- ---- modules, worlds and environments ----
@@ -99,6 +99,38 @@ a_function_is_passed_back = refl
 a_function_that_was_not_shown_is_not_passed : events applied [] (Take g ∷ (Call f (Function 1 ∷ []) ∷ [])) 25 ≡ Linked ∷ (Got (Function 0) ∷ (BadMove ∷ []))
 unfolding out-Instr denote.Hole.Carrier.out wrapped un_from un_to un_value bin_from bin_to bin_value load_to load_width loaded store_from stored
 a_function_that_was_not_shown_is_not_passed = refl
+
+-- ---- external references ----
+
+abbrev externref : ValType
+externref = valt.Ref reft.Extern
+
+-- A module whose f gives back the external reference that it gets.
+abbrev gives_back : Module
+gives_back = record empty { types = record { params = externref ∷ []; results = externref ∷ [] } ∷ []; funcs = code 0 (i.LocalGet 0 ∷ []) ∷ [] }
+
+a_null_is_passed_as_an_extern_reference : events (plain gives_back) [] (Call f (Null ∷ []) ∷ (Call f (ExternNumber 0 ∷ []) ∷ [])) 25 ≡ Linked ∷ (Returned (Null ∷ []) ∷ (Returned (ExternNumber 0 ∷ []) ∷ []))
+unfolding out-Instr denote.Hole.Carrier.out wrapped un_from un_to un_value bin_from bin_to bin_value load_to load_width loaded store_from stored
+a_null_is_passed_as_an_extern_reference = refl
+
+-- An environment with a table of two external references, and a global that is one.
+abbrev externs : Environment
+externs = record {
+  pair = (e, m);
+  funcs = [];
+  table = Some (record { ty = reft.Extern; limits = record { min = 2; max = Some 2 }; entries = Null ∷ (ExternNumber 7 ∷ []) });
+  memory = None;
+  global = Some (record { ty = record { ty = externref; mutable = true }; value = Null });
+} ∷ []
+
+an_own_table_of_extern_references : events (plain gives_back) externs (Get (TableOf (e, m)) 0 ∷ (Get (TableOf (e, m)) 1 ∷ (Set (TableOf (e, m)) 0 (ExternNumber 8) ∷ (Set (TableOf (e, m)) 1 Null ∷ (Get (TableOf (e, m)) 0 ∷ (Get (TableOf (e, m)) 1 ∷ (Set (TableOf (e, m)) 1 (Number 8) ∷ []))))))) 25 ≡
+    Linked ∷ (Got Null ∷ (Got (ExternNumber 7) ∷ (Done ∷ (Done ∷ (Got (ExternNumber 8) ∷ (Got Null ∷ (BadMove ∷ [])))))))
+unfolding out-Instr denote.Hole.Carrier.out wrapped un_from un_to un_value bin_from bin_to bin_value load_to load_width loaded store_from stored
+an_own_table_of_extern_references = refl
+
+an_own_global_of_an_extern_reference : events (plain gives_back) externs (Get (GlobalOf (e, m)) 0 ∷ (Set (GlobalOf (e, m)) 0 (ExternNumber 8) ∷ (Get (GlobalOf (e, m)) 0 ∷ []))) 25 ≡ Linked ∷ (Got Null ∷ (Done ∷ (Got (ExternNumber 8) ∷ [])))
+unfolding out-Instr denote.Hole.Carrier.out wrapped un_from un_to un_value bin_from bin_to bin_value load_to load_width loaded store_from stored
+an_own_global_of_an_extern_reference = refl
 
 -- ---- an own function that the embedder calls ----
 

@@ -1,5 +1,5 @@
 -- What is and what is not an environment, and which environments link with which worlds, computed.
-use Rattle.base_lists.proofs.Common.{◌≡◌, refl, ap, ◌∙◌, ℕ, zero, suc, ◌*◌, List, [], ◌∷◌, length, Some, None, Bool, true, false, ◌&&◌, pos, nat_le, nat_eq, nat_lt, eq-eqb, copies_length}
+use Rattle.base_lists.proofs.Common.{◌≡◌, refl, ap, ◌∙◌, ℕ, zero, suc, ◌*◌, ◌^◌, List, [], ◌∷◌, length, Some, None, Bool, true, false, ◌&&◌, pos, nat_le, nat_eq, nat_lt, eq-eqb, copies_length}
 use Rattle.wasm_tree.specs.declared.types.RefType.TheVariants as reft
 use Rattle.wasm_tree_spec.specs.Prelude.{ValType, Limits, Module}
 use Rattle.wasm_tree.specs.declared.types.ValType.TheVariants as valt
@@ -8,8 +8,8 @@ use Rattle.wasm_tree.specs.declared.module.ImportDesc.TheVariants as im
 use Rattle.wasm_tree.specs.declared.module.ConstExpr.TheVariants as const
 use Rattle.wasm_tree.specs.declared.module.DataMode.TheVariants as data'
 use Rattle.wasm_tree.specs.declared.module.ElemMode.TheVariants as elem
-use Rattle.wasm_meaning.specs.Prelude.{copies, Text, Offer, Shown, Number, Null, OwnFunc, ExternNumber, Function, all_of, is_environment, links}
-use Rattle.wasm_meaning.specs.Environment.{OwnTable, OwnMemory, where_there, is_within, is_memory}
+use Rattle.wasm_meaning.specs.Prelude.{copies, Environment, Text, Offer, Shown, Number, Null, OwnFunc, ExternNumber, Function, all_of, is_environment, links}
+use Rattle.wasm_meaning.specs.Environment.{OwnTable, OwnMemory, where_there, is_value, is_within, is_table, is_memory}
 use Rattle.wasm_meaning.proofs.SmallRuns.{f, g, a, e, m, i32, to_i32, nothing, empty, code, num, gives, three, plain}
 
 -- ---- what is offered ----
@@ -35,6 +35,9 @@ offers_global mutable ty value = record (offers_nothing f) { global = Some (reco
 abbrev funcs_in : Limits → List Shown → OwnTable
 funcs_in limits entries = record { ty = reft.Func; limits = limits; entries = entries }
 
+abbrev externs_in : Limits → List Shown → OwnTable
+externs_in limits entries = record { ty = reft.Extern; limits = limits; entries = entries }
+
 abbrev pages_of_zeros : Limits → ℕ → OwnMemory
 pages_of_zeros limits n = record { limits = limits; pages = n; bytes = copies (65536 * n) 0 }
 
@@ -50,8 +53,15 @@ nothing_is_an_environment = refl
 a_table_may_hold_its_functions : is_environment (offers_func ∷ (offers_table (funcs_in (within 2 4) (its_func ∷ (Null ∷ (its_func ∷ [])))) ∷ [])) ≡ true
 a_table_may_hold_its_functions = refl
 
-a_table_may_hold_extern_numbers : is_environment (offers_table (record { ty = reft.Extern; limits = within 0 1; entries = ExternNumber 7 ∷ [] }) ∷ []) ≡ true
+a_table_may_hold_extern_numbers : is_environment (offers_table (externs_in (within 0 1) (ExternNumber 7 ∷ [])) ∷ []) ≡ true
 a_table_may_hold_extern_numbers = refl
+
+-- A place for external references may hold null.
+a_table_may_hold_an_extern_null : is_environment (offers_table (externs_in (within 2 2) (ExternNumber 7 ∷ (Null ∷ []))) ∷ []) ≡ true
+a_table_may_hold_an_extern_null = refl
+
+a_global_may_be_an_extern_null : is_environment (offers_global true (valt.Ref reft.Extern) Null ∷ []) ≡ true
+a_global_may_be_an_extern_null = refl
 
 an_immutable_global_of_a_function : is_environment (offers_func ∷ (offers_global false (valt.Ref reft.Func) its_func ∷ [])) ≡ true
 an_immutable_global_of_a_function = refl
@@ -109,6 +119,27 @@ a_memory_has_not_65537_pages = refl
 
 no_maximum_is_65537_pages : is_memory (pages_of_zeros (within 0 65537) 0) ≡ false
 no_maximum_is_65537_pages = refl
+
+-- ---- tables of many entries ----
+
+nulls_are_references : (n : ℕ) → all_of (is_value [] (valt.Ref reft.Func)) (copies n Null) ≡ true
+nulls_are_references zero = refl
+nulls_are_references (suc n) = nulls_are_references n
+
+-- A number of nulls is a table if its limits allow this number and it is below 2 ^ 32.
+nulls_are_a_table : (limits : Limits) (n : ℕ) → is_within n limits ≡ true → nat_lt n (2 ^ 32) ≡ true → is_table [] (funcs_in limits (copies n Null)) ≡ true
+nulls_are_a_table limits n size few =
+    both (ap (λ k. is_within k limits) (copies_length n Null) ∙ size) (both (ap (λ k. nat_lt k (2 ^ 32)) (copies_length n Null) ∙ few) (nulls_are_references n))
+
+-- More entries are no table, whatever the limits.
+many_entries_are_none : (env : Environment) (t : OwnTable) (n : ℕ) → length t.entries ≡ n → nat_lt n (2 ^ 32) ≡ false → is_table env t ≡ false
+many_entries_are_none env t n size many = no (is_within (length t.entries) t.limits) (ap (λ x. x && all_of (is_value env (valt.Ref t.ty)) t.entries) (ap (λ k. nat_lt k (2 ^ 32)) size ∙ many))
+
+a_table_may_have_4294967295_entries : is_table [] (funcs_in (record { min = 0; max = None }) (copies 4294967295 Null)) ≡ true
+a_table_may_have_4294967295_entries = nulls_are_a_table (record { min = 0; max = None }) 4294967295 refl refl
+
+a_table_has_not_4294967296_entries : is_table [] (funcs_in (record { min = 0; max = None }) (copies 4294967296 Null)) ≡ false
+a_table_has_not_4294967296_entries = many_entries_are_none [] (funcs_in (record { min = 0; max = None }) (copies 4294967296 Null)) 4294967296 (copies_length 4294967296 Null) refl
 
 -- ---- what is none ----
 

@@ -6,6 +6,7 @@ mod FurtherRuns
 mod EnvironmentRows
 mod SequentialRuns
 mod LoaderRuns
+mod RunLawExamples
 mod OrderAndIndexRuns
 mod LinkingAndSegmentRuns
 pub mod Walks

@@ -517,7 +517,7 @@ abbrev secondary : ℕ → List ConstExpr → List Func → Module
 secondary slots items funcs = record pairs { imports = of_b a (im.Table (func_table slots)) ∷ []; funcs = funcs; elems = put_at 0 0 items ∷ [] }
 
 abbrev loaded_by : Module → Module → List (Pair × FuncType) → List (Text × ExportDesc) → LoaderWorld
-loaded_by first second placeholders view = record { primary = first; secondaries = record { «module» = second; placeholders = placeholders } ∷ []; slot_table = 0; view = view }
+loaded_by first second placeholders view = record { primary = first; secondaries = record { «module» = second; placeholders = placeholders } ∷ []; import_namespace = b; slot_table = 0; view = view }
 
 abbrev one_slot : List (Pair × FuncType)
 one_slot = ((b, g), to_i32) ∷ []
@@ -631,10 +631,17 @@ a_placeholder_that_a_move_calls : events_loaded (loaded_by calls_moved gives_mov
 unfolding out-Instr denote.Hole.Carrier.out wrapped un_from un_to un_value bin_from bin_to bin_value load_to load_width loaded store_from stored
 a_placeholder_that_a_move_calls = refl
 
--- A start of a secondary module is not called.
-the_start_of_a_secondary_is_not_made : events_loaded (loaded_by calls_moved (record gives_moved { funcs = giving 7 ∷ (code 4 (i.Unreachable ∷ []) ∷ []); start = Some 1 }) one_slot ((f, ex.Func 1) ∷ [])) [] (Call f [] ∷ []) 60 ≡ returns (Number 7 ∷ [])
+-- A secondary module with a start function does not link, whatever the function does.
+abbrev with_a_start : List Instr → Module
+with_a_start body = record gives_moved { funcs = giving 7 ∷ (code 4 body ∷ []); start = Some 1 }
+
+a_secondary_with_a_start_does_not_link : events_loaded (loaded_by calls_moved (with_a_start []) one_slot (f_and a (ex.Table 0))) [] (Call f [] ∷ (Get (Named a) 0 ∷ (Call f [] ∷ []))) 60 ≡ Linked ∷ (Trapped ∷ (Got (Function 0) ∷ (Trapped ∷ [])))
 unfolding out-Instr denote.Hole.Carrier.out wrapped un_from un_to un_value bin_from bin_to bin_value load_to load_width loaded store_from stored
-the_start_of_a_secondary_is_not_made = refl
+a_secondary_with_a_start_does_not_link = refl
+
+it_links_without_the_start : events_loaded (loaded_by calls_moved (record (with_a_start []) { start = None }) one_slot ((f, ex.Func 1) ∷ [])) [] (Call f [] ∷ []) 60 ≡ returns (Number 7 ∷ [])
+unfolding out-Instr denote.Hole.Carrier.out wrapped un_from un_to un_value bin_from bin_to bin_value load_to load_width loaded store_from stored
+it_links_without_the_start = refl
 
 -- ---- a module alone ----
 

@@ -11,7 +11,7 @@ use Rattle.wasm_tree.specs.declared.module.ConstExpr.TheVariants as const
 use Rattle.wasm_tree.specs.declared.module.ElemMode.TheVariants as elem
 use Rattle.wasm_num.specs.Operations.{wrapped, un_from, un_to, un_value, bin_from, bin_to, bin_value}
 use Rattle.wasm_meaning.specs.Access.{load_to, load_width, loaded, store_from, stored}
-use Rattle.wasm_meaning.specs.Prelude.{Environment, Number, Function, Event, Move, Linked, LinkFault, InstanceTrapped, Asked, Returned, Trapped, Got, BadMove, Call, Invoke, Answer, Get, Named, LoaderWorld, events_loaded}
+use Rattle.wasm_meaning.specs.Prelude.{Environment, Number, Null, Function, Event, Move, Linked, LinkFault, InstanceTrapped, Asked, Returned, Trapped, Got, BadMove, Call, Invoke, Answer, Get, Named, LoaderWorld, events_loaded}
 use Rattle.wasm_meaning.proofs.SmallRuns.{f, g, a, b, e, m, i32, to_i32, nothing, empty, code, num, own}
 
 -- ---- modules ----
@@ -25,7 +25,7 @@ puts place func = record { mode = elem.Active 0 (const.I32 (pos place)); ty = re
 
 -- Function 0 is the environment's and function 1 the placeholder; f calls through the slot, g does
 -- so after a call of the environment's function, and m calls the placeholder.
-abbrev primary : Module
+abbrev pub primary : Module
 primary = record empty {
   imports = record { «module» = e; field = g; desc = im.Func 0 } ∷ (record { «module» = b; field = g; desc = im.Func 0 } ∷ []);
   funcs = code 0 (num 0 ∷ (i.CallIndirect 0 0 ∷ [])) ∷ (code 0 (i.Call 0 ∷ (i.Drop ∷ (i.Call 2 ∷ []))) ∷ (code 0 (i.Call 1 ∷ []) ∷ []));
@@ -43,7 +43,7 @@ abbrev secondary : List Func → List ElemSeg → Module
 secondary funcs elems = record empty { imports = record { «module» = b; field = a; desc = im.Table two_entries } ∷ []; funcs = funcs; elems = elems }
 
 -- The moved function gives 7.
-abbrev moved : Module
+abbrev pub moved : Module
 moved = secondary (code 0 (num 7 ∷ []) ∷ []) (puts 0 0 ∷ [])
 
 -- The moved function counts its calls.
@@ -54,10 +54,11 @@ counting = record (secondary (code 0 (i.GlobalGet 0 ∷ (num 1 ∷ (i.Bin bin.I3
 
 -- ---- runs ----
 
-abbrev under : Module → Module → LoaderWorld
+abbrev pub under : Module → Module → LoaderWorld
 under first second = record {
   primary = first;
   secondaries = record { «module» = second; placeholders = ((b, g), to_i32) ∷ [] } ∷ [];
+  import_namespace = b;
   slot_table = 0;
   view = (f, ex.Func 2) ∷ ((g, ex.Func 3) ∷ ((m, ex.Func 4) ∷ ((a, ex.Table 0) ∷ [])));
 }
@@ -110,6 +111,12 @@ what_a_failed_load_wrote_stands : shown (under primary (secondary (code 0 (num 7
 unfolding out-Instr denote.Hole.Carrier.out wrapped un_from un_to un_value bin_from bin_to bin_value load_to load_width loaded store_from stored
 what_a_failed_load_wrote_stands = refl
 
+-- A secondary module that imports the table of slots from another namespace than that of the loader
+-- does not link, and nothing of it is written.
+a_secondary_of_another_namespace_does_not_link : shown (record (under primary moved) { import_namespace = e }) (call f ∷ (call m ∷ (Get (Named a) 1 ∷ []))) ≡ Linked ∷ (Trapped ∷ (Trapped ∷ (Got Null ∷ [])))
+unfolding out-Instr denote.Hole.Carrier.out wrapped un_from un_to un_value bin_from bin_to bin_value load_to load_width loaded store_from stored
+a_secondary_of_another_namespace_does_not_link = refl
+
 a_function_of_another_type_is_not_called : shown (under primary (secondary (code 1 (num 7 ∷ []) ∷ []) (puts 0 0 ∷ []))) (call m ∷ []) ≡ Linked ∷ (Trapped ∷ [])
 unfolding out-Instr denote.Hole.Carrier.out wrapped un_from un_to un_value bin_from bin_to bin_value load_to load_width loaded store_from stored
 a_function_of_another_type_is_not_called = refl
@@ -117,6 +124,43 @@ a_function_of_another_type_is_not_called = refl
 a_placeholder_of_another_type_is_no_match : shown (record (under primary moved) { secondaries = record { «module» = moved; placeholders = ((b, g), nothing) ∷ [] } ∷ [] }) (call f ∷ []) ≡ LinkFault ∷ (BadMove ∷ [])
 unfolding out-Instr denote.Hole.Carrier.out wrapped un_from un_to un_value bin_from bin_to bin_value load_to load_width loaded store_from stored
 a_placeholder_of_another_type_is_no_match = refl
+
+-- ---- the steps of a load ----
+
+-- The same primary module, whose slot holds its own function 5, which does what the moved one does.
+abbrev filled_before : Module
+filled_before = record primary { funcs = primary.funcs ++ code 0 (num 7 ∷ []) ∷ []; elems = puts 0 5 ∷ [] }
+
+-- The events of so many steps, in which f is called twice.
+abbrev two_calls_in : ℕ → Module → List Event
+two_calls_in n first = events_loaded (under first moved) own (call f ∷ (call f ∷ [])) n
+
+-- A call takes six steps: the move, the constant, the indirect call, the constant of the function in
+-- the slot, and the ends of both functions. The load is part of the indirect call, so the first call
+-- takes no more steps than the second, nor than one of a function that was in the slot before.
+the_first_call_is_not_over_in_seven_steps : two_calls_in 7 primary ≡ Linked ∷ []
+unfolding out-Instr denote.Hole.Carrier.out wrapped un_from un_to un_value bin_from bin_to bin_value load_to load_width loaded store_from stored
+the_first_call_is_not_over_in_seven_steps = refl
+
+a_load_takes_no_step_of_its_own : two_calls_in 8 primary ≡ Linked ∷ (number 7 ∷ [])
+unfolding out-Instr denote.Hole.Carrier.out wrapped un_from un_to un_value bin_from bin_to bin_value load_to load_width loaded store_from stored
+a_load_takes_no_step_of_its_own = refl
+
+a_filled_slot_is_not_called_in_seven_steps : two_calls_in 7 filled_before ≡ Linked ∷ []
+unfolding out-Instr denote.Hole.Carrier.out wrapped un_from un_to un_value bin_from bin_to bin_value load_to load_width loaded store_from stored
+a_filled_slot_is_not_called_in_seven_steps = refl
+
+a_filled_slot_is_called_in_eight_steps : two_calls_in 8 filled_before ≡ Linked ∷ (number 7 ∷ [])
+unfolding out-Instr denote.Hole.Carrier.out wrapped un_from un_to un_value bin_from bin_to bin_value load_to load_width loaded store_from stored
+a_filled_slot_is_called_in_eight_steps = refl
+
+the_second_call_is_not_over_in_thirteen_steps : two_calls_in 13 primary ≡ Linked ∷ (number 7 ∷ [])
+unfolding out-Instr denote.Hole.Carrier.out wrapped un_from un_to un_value bin_from bin_to bin_value load_to load_width loaded store_from stored
+the_second_call_is_not_over_in_thirteen_steps = refl
+
+the_second_call_takes_six_steps_too : two_calls_in 14 primary ≡ Linked ∷ (number 7 ∷ (number 7 ∷ []))
+unfolding out-Instr denote.Hole.Carrier.out wrapped un_from un_to un_value bin_from bin_to bin_value load_to load_width loaded store_from stored
+the_second_call_takes_six_steps_too = refl
 
 -- ---- calls that moves and starts make ----
 
@@ -173,7 +217,7 @@ placeholder_starts = record seen_placeholder {
 }
 
 abbrev under_start : Module → LoaderWorld
-under_start second = record { primary = placeholder_starts; secondaries = record { «module» = second; placeholders = ((b, g), nothing) ∷ [] } ∷ []; slot_table = 0; view = (a, ex.Table 0) ∷ [] }
+under_start second = record { primary = placeholder_starts; secondaries = record { «module» = second; placeholders = ((b, g), nothing) ∷ [] } ∷ []; import_namespace = b; slot_table = 0; view = (a, ex.Table 0) ∷ [] }
 
 -- An environment with the function m of e.
 abbrev own_nothing : Environment
@@ -212,6 +256,7 @@ abbrev under_two : Module → Module → LoaderWorld
 under_two first second = record {
   primary = two_placeholders;
   secondaries = record { «module» = first; placeholders = ((b, f), to_i32) ∷ [] } ∷ (record { «module» = second; placeholders = ((b, g), to_i32) ∷ [] } ∷ []);
+  import_namespace = b;
   slot_table = 0;
   view = (f, ex.Func 2) ∷ ((g, ex.Func 3) ∷ ((m, ex.Func 4) ∷ ((a, ex.Table 0) ∷ [])));
 }

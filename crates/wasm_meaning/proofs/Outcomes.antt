@@ -1,6 +1,6 @@
 -- Properties of the value of an outcome, if it gives one, and outcomes that are related.
 use Rattle.std.proofs.Common.{◌≡◌, Bool, true, false, cond, Option, Some, None, refl, ap, subst}
-use Rattle.wasm_meaning.specs.Outcomes.{Outcome, Gives, Traps, IllTyped, ResRel, done, trap, wrong, bind, or_trap, or_ill_typed}
+use Rattle.wasm_meaning.specs.Outcomes.{Outcome, Gives, Traps, IllTyped, ResRel, trap, wrong, bind, or_trap, or_ill_typed}
 
 -- The property P holds of the value, if the outcome gives one.
 pub data AllOf {A : Type 0} (P : A → Type 0) : Outcome A → Type 0 where

@@ -1,5 +1,5 @@
 -- A start depends only on its own frames, not on the entries below them.
-use Rattle.base_lists.proofs.Common.{◌≡◌, ℕ, List, [], ◌∷◌, ◌++◌, length, Option, Some, None, Bool, true, false, slice_get, refl, ap, subst, nat_eq, then_same}
+use Rattle.base_lists.proofs.Common.{◌≡◌, ℕ, List, [], ◌∷◌, ◌++◌, length, Option, Some, Bool, true, false, slice_get, refl, ap, subst, nat_eq, then_same}
 use Rattle.base_lists.specs.Related.{OptRel, none, some}
 use Rattle.base_lists.proofs.Related.{either_rel}
 use Rattle.wasm_tree_spec.specs.Prelude.{ValType, FuncType}

@@ -12,7 +12,7 @@ use Rattle.wasm_meaning.specs.State.{Text, Pair, Val, Inst, Func, Placeholder, S
 use Rattle.wasm_meaning.specs.Tables.{with_table}
 use Rattle.wasm_meaning.specs.Control.{type_at, func_ref}
 use Rattle.wasm_meaning.specs.Step.{enter_at}
-use Rattle.wasm_meaning.specs.Linking.{same_pair, first_place, pair_of, export_named}
+use Rattle.wasm_meaning.specs.Linking.{same_text, same_pair, first_place, pair_of, export_named}
 use Rattle.wasm_meaning.specs.Environment.{Environment, ExternalValue, FuncAt, owned_of, flat}
 use Rattle.wasm_meaning.specs.World.{Begun, Filled, or_trapped, own_count, own_store, all_there, address_in, start_in}
 use Rattle.wasm_meaning.specs.Sequential.{Added, added_with, own_external_value}
@@ -29,6 +29,8 @@ pub record LoaderWorld : Type 0 where
   pub primary : Module
   -- Their slots follow one another in this order.
   pub secondaries : List Secondary
+  -- The module name under which secondary modules import what the primary module exports.
+  pub import_namespace : Text
   -- The index of the table of slots in the primary module.
   pub slot_table : ℕ
   -- What the embedder sees of the primary module.
@@ -81,16 +83,26 @@ begun_under env w = primary_added env w >>= (begun_of env w)
 
 -- ---- a secondary module ----
 
--- Adds a secondary module. Each import denotes what the primary module exports under the field
--- name; this exists once the primary module is allocated.
-abbrev pub secondary_added : LoaderWorld → Inst → Module → Store → Option Added
-secondary_added w i m s = added_with (λ x. export_named w.primary.exports x.field >>= (address_in i)) s m
+-- What an import of a secondary module denotes: what the primary module exports under the field
+-- name, which exists once the primary module is allocated. An import from another namespace denotes
+-- nothing.
+abbrev pub supplied_by_primary : (namespace : Text) (primary : Module) → Inst → Import → Option ExternalValue
+supplied_by_primary namespace primary i x = cond (same_text x.«module» namespace) (export_named primary.exports x.field >>= (address_in i)) None
+
+abbrev pub if_no_start : {A : Type 0} → (start : Option ℕ) → Option A → Option A
+if_no_start None a = a
+if_no_start (Some f) a = None
+
+-- Adds a secondary module. One with a start function does not link, because a call of a placeholder
+-- is one step and a start takes steps of its own.
+abbrev pub secondary_added : (namespace : Text) (primary : Module) → Inst → Module → Store → Option Added
+secondary_added namespace primary i m s = if_no_start m.start (added_with (supplied_by_primary namespace primary i) s m)
 
 -- The store in which the call of a placeholder goes on. A secondary module that is not loaded is
--- added first; its start function, if it has one, does not run.
+-- added first.
 abbrev pub store_loaded : LoaderWorld → Inst → Module → (is_loaded : Bool) → Store → Filled
 store_loaded w i m true s = record { store = s; trapped = false }
-store_loaded w i m false s = or_trapped s (secondary_added w i m s >>= λ a. Some a.filled)
+store_loaded w i m false s = or_trapped s (secondary_added w.import_namespace w.primary i m s >>= λ a. Some a.filled)
 
 -- Calls a function if it has the type `t`, and traps if it has another type.
 abbrev pub called_as : FuncType → Store → ℕ → List Val → List Entry → Outcome Next

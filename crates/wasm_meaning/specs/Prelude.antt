@@ -10,7 +10,7 @@ pub use Rattle.wasm_meaning.specs.Linking.{has_kind, import_at, import_step, imp
 pub use Rattle.wasm_meaning.specs.Linking.{met_limits, module_at, outside_read, pair_of, places, read_of, read_step, same_pair, same_site, same_text, sites, sites_from, sites_in, source_of}
 pub use Rattle.wasm_meaning.specs.Linking.{space_index}
 pub use Rattle.wasm_meaning.specs.Loader.{LoaderRun, LoaderWorld, Secondary, begun_of, begun_under, events_loaded, fresh_loader, loader_made, placeholders_from, placeholders_of, primary_added}
-pub use Rattle.wasm_meaning.specs.Loader.{secondary_of, slot_of, store_loaded, store_under, supplied, tick_loader}
+pub use Rattle.wasm_meaning.specs.Loader.{if_no_start, secondary_added, secondary_of, slot_of, store_loaded, store_under, supplied, supplied_by_primary, tick_loader}
 pub use Rattle.wasm_meaning.specs.Memory.{fill_memory, grow_memory, init_memory, load_from, memory_may_grow, pop_three, store_into, with_memory, writes, written}
 pub use Rattle.wasm_meaning.specs.Outcomes.{Gives, IllTyped, Outcome, ResRel, Traps, bind, copies, done, onto, or_ill_typed, or_trap, overwrite, slice, split_at, trap, with_entry, wrong}
 pub use Rattle.wasm_meaning.specs.Paths.{EndsWith, LeadsTo, Path, PathStep, ends, goes, walk, walk_on}
