@@ -65,7 +65,7 @@ module _ (laws : Laws) (namespace : ℕ → List ℕ) (names : SplitNames) (m : 
 
   -- The world of a loader with the module alone and no secondary module.
   abbrev lone : LoaderWorld
-  lone = record { primary = m; secondaries = []; slot_table = 0; view = map (λ e. (e.name, e.desc)) m.exports }
+  lone = record { primary = m; secondaries = []; import_namespace = []; slot_table = 0; view = map (λ e. (e.name, e.desc)) m.exports }
 
   lone_is : (b : Begun) → instantiate env (alone m) ≡ Some b → begun_under env lone ≡ Some b
   lone_is b h = laws.primary env lone refl ∙ ap (λ view. instantiate env (record { parts = one m; view = view })) (map_twice (λ v. (v.0, record { part = 0; what = v.1 })) (λ e. (e.name, e.desc)) m.exports) ∙ h

@@ -1,12 +1,13 @@
 -- Each import of a secondary module denotes an external value that matches it, in each store in
 -- which the instance of the primary module is well typed.
-use Rattle.base_lists.proofs.Common.{◌≡◌, ◌∙◌, ap, ap₂, sym, subst, refl, ℕ, zero, suc, List, [], ◌∷◌, ◌++◌, map, length, Option, Some, true, false, ⊎_elim, slice_get, slice_index, unwrap_or, arith, option_map, and_from, slice_get_within, same_Some, chosen_from, numbers_index, option_map_is}
+use Rattle.base_lists.proofs.Common.{◌≡◌, ◌∙◌, ap, ap₂, sym, subst, refl, ℕ, zero, suc, List, [], ◌∷◌, ◌++◌, map, length, Option, Some, None, true, false, cond, ⊎_elim, slice_get, slice_index, unwrap_or, arith, option_map, and_from, slice_get_within, same_Some, chosen_from, numbers_index, option_map_is}
 use Rattle.base_lists.proofs.Common.{append_at_left, append_from, map_from, push_last, Has}
+use Rattle.base_lists.proofs.Same.{text_self}
 use Rattle.base_lists.specs.Options.{◌>>=◌, all_there}
 use Rattle.wasm_tree_spec.specs.Prelude.{Space, Functions, Tables, Memories, Globals, Limits, TableType, GlobalType, Import, ImportDesc, Module, same_func_type, imported_tables, imported_memories, imported_globals, funcs_of, tables_of, memories_of, globals_of}
 use Rattle.wasm_tree.specs.declared.module.ImportDesc.TheVariants as im
 use Rattle.wasm_tree.specs.declared.module.ExportDesc.TheVariants as ex
-use Rattle.wasm_meaning.specs.Prelude.{Inst, Store, type_at, export_named, ExternalValue, FuncAt, address_in, is_match, all_match}
+use Rattle.wasm_meaning.specs.Prelude.{Inst, Store, type_at, export_named, ExternalValue, FuncAt, address_in, is_match, all_match, supplied_by_primary}
 use Rattle.index_remap.specs.declared.remap.Remap.{Remap}
 use Rattle.index_remap.specs.Prelude.{declared_refs, new_import, new_import_desc, renumbered_tree}
 use Rattle.world_simulation.specs.Prelude.{IsWithDeclared}
@@ -116,7 +117,11 @@ module _ (namespace : ℕ → List ℕ) (names : SplitNames) (m : Module) (holds
     second_keeps = declared_keeps second_tree
 
     abbrev pub supply : Import → Option ExternalValue
-    supply x = export_named first.exports x.field >>= (address_in i)
+    supply = supplied_by_primary names.import_namespace first i
+
+    -- An import from the primary module's namespace is looked up by its field.
+    pub by_field : (field : List ℕ) (d : ImportDesc) → supply (record { «module» = names.import_namespace; field = field; desc = d }) ≡ (export_named first.exports field >>= (address_in i))
+    by_field field d = ap (λ b. cond b (export_named first.exports field >>= (address_in i)) None) (text_self names.import_namespace)
 
     abbrev Given : Import → Type 0
     Given x = Supplied supply s second (new_import second_map x)
@@ -135,7 +140,7 @@ module _ (namespace : ℕ → List ℕ) (names : SplitNames) (m : Module) (holds
         let o = func_offered c.0 ty.0 w.1 ty.1 in
         subst Given c.4 (
           o.0,
-          ap (λ e. e >>= (address_in i)) (func_exported namespace names.export_prefix m moved primary_holds own before slots c.0 w.0 w.1) ∙ o.1,
+          by_field (name_from_primary names.export_prefix Functions c.0) (new_import_desc second_map c.2) ∙ ap (λ e. e >>= (address_in i)) (func_exported namespace names.export_prefix m moved primary_holds own before slots c.0 w.0 w.1) ∙ o.1,
           subst (λ d. is_match s second (new_import_desc second_map d) o.0 ≡ Some true) ty.2 (ap (λ z. is_match s second (im.Func z) o.0) (numbers_index (length m.types) ty.0 (type_there m holds c.0 ty.0 ty.1)) ∙ matched (im.Func ty.0) o.0 o.2),
         )
 
@@ -147,7 +152,7 @@ module _ (namespace : ℕ → List ℕ) (names : SplitNames) (m : Module) (holds
         let o = table_offered c.0 t.0 t.1 in
         subst Given c.4 (
           o.0,
-          ap (λ e. e >>= (address_in i)) (table_exported namespace names.export_prefix m moved primary_holds own before slots c.0 w.0 w.1) ∙ o.1,
+          by_field (name_from_primary names.export_prefix Tables c.0) (new_import_desc second_map c.2) ∙ ap (λ e. e >>= (address_in i)) (table_exported namespace names.export_prefix m moved primary_holds own before slots c.0 w.0 w.1) ∙ o.1,
           subst (λ d. is_match s second (new_import_desc second_map d) o.0 ≡ Some true) t.2 (matched (im.Table t.0) o.0 o.2),
         )
 
@@ -159,7 +164,7 @@ module _ (namespace : ℕ → List ℕ) (names : SplitNames) (m : Module) (holds
         let o = memory_offered c.0 t.0 t.1 in
         subst Given c.4 (
           o.0,
-          ap (λ e. e >>= (address_in i)) (memory_exported namespace names.export_prefix m moved primary_holds own before slots c.0 w.0 w.1) ∙ o.1,
+          by_field (name_from_primary names.export_prefix Memories c.0) (new_import_desc second_map c.2) ∙ ap (λ e. e >>= (address_in i)) (memory_exported namespace names.export_prefix m moved primary_holds own before slots c.0 w.0 w.1) ∙ o.1,
           subst (λ d. is_match s second (new_import_desc second_map d) o.0 ≡ Some true) t.2 (matched (im.Memory t.0) o.0 o.2),
         )
 
@@ -171,7 +176,7 @@ module _ (namespace : ℕ → List ℕ) (names : SplitNames) (m : Module) (holds
         let o = global_offered c.0 t.0 t.1 in
         subst Given c.4 (
           o.0,
-          ap (λ e. e >>= (address_in i)) (global_exported namespace names.export_prefix m moved primary_holds own before slots c.0 w.0 w.1) ∙ o.1,
+          by_field (name_from_primary names.export_prefix Globals c.0) (new_import_desc second_map c.2) ∙ ap (λ e. e >>= (address_in i)) (global_exported namespace names.export_prefix m moved primary_holds own before slots c.0 w.0 w.1) ∙ o.1,
           subst (λ d. is_match s second (new_import_desc second_map d) o.0 ≡ Some true) t.2 (matched (im.Global t.0) o.0 o.2),
         )
 
@@ -181,7 +186,7 @@ module _ (namespace : ℕ → List ℕ) (names : SplitNames) (m : Module) (holds
     slots_given : Given slots_import
     slots_given =
         let o = slots_offered in
-        (o.0, ap (λ e. e >>= (address_in i)) (slots_exported namespace names.export_prefix m moved primary_holds) ∙ o.1, matched (im.Table (slot_table_type (length moved))) o.0 o.2)
+        (o.0, by_field (slots_name names.export_prefix) (im.Table (slot_table_type (length moved))) ∙ ap (λ e. e >>= (address_in i)) (slots_exported namespace names.export_prefix m moved primary_holds) ∙ o.1, matched (im.Table (slot_table_type (length moved))) o.0 o.2)
 
     abbrev Each : List Import → Type 0
     Each xs = (n : ℕ) (x : Import) → slice_get xs n ≡ Some x → Given x

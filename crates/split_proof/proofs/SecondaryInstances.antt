@@ -11,7 +11,7 @@ use Rattle.base_lists.specs.Options.{◌>>=◌, all_there}
 use Rattle.base_lists.specs.Places.{numbers, places}
 use Rattle.base_kept.specs.Kept.{kept_before, new_places}
 use Rattle.base_kept.proofs.Laws.{new_place}
-use Rattle.wasm_tree_spec.specs.Prelude.{Space, Functions, Tables, Memories, Globals, Import, Module, imported_funcs, funcs_of, tables_of, memories_of, globals_of}
+use Rattle.wasm_tree_spec.specs.Prelude.{Space, Functions, Tables, Memories, Globals, Import, ImportDesc, Module, imported_funcs, funcs_of, tables_of, memories_of, globals_of}
 use Rattle.wasm_tree.specs.declared.module.ImportDesc.TheVariants as im
 use Rattle.wasm_meaning.specs.Prelude.{Inst, Store, export_named, ExternalValue, FuncAt, TableAt, MemoryAt, GlobalAt, address_in, address_of, addresses_of, next_inst}
 use Rattle.index_remap.specs.declared.remap.Remap.{Remap}
@@ -21,14 +21,14 @@ use Rattle.world_simulation.specs.TypedInstances.{IsTyped}
 use Rattle.split_plan.specs.NamedFunctions.{is_defined}
 use Rattle.split_plan.specs.PlannedMoves.{body_uses_segment}
 use Rattle.split_spec.specs.declared.names.SplitNames.{SplitNames}
-use Rattle.split_spec.specs.Prelude.{defined_at, slot_table, entities, from_primary, imports_from_primary, is_from_primary, marks_from_primary, name_from_primary, primary_map, primary_with, HasSlots, secondary_func, secondary_imports, secondary_map}
+use Rattle.split_spec.specs.Prelude.{defined_at, slot_table, slot_table_type, slots_name, entities, from_primary, imports_from_primary, is_from_primary, marks_from_primary, name_from_primary, primary_map, primary_with, HasSlots, secondary_func, secondary_imports, secondary_map}
 use Rattle.split_proof.specs.Premises.{CanMove}
 use Rattle.split_proof.proofs.SecondarySpaces as second_spaces
 use Rattle.split_proof.proofs.SharedFunctions.{shared_within}
 use Rattle.wasm_valid.specs.Prelude.{ItemsHold}
 use Rattle.split_proof.specs.Loads.{NamesWhatThePrimaryHas}
 use Rattle.split_proof.proofs.ExportsForSecondary.{marked_at, slots_exported, func_exported, table_exported, memory_exported, global_exported}
-use Rattle.split_proof.proofs.MatchingImports.{first, func_offered, table_offered, memory_offered, global_offered, slots_offered, second, second_tree, second_keeps, supply, slots_import}
+use Rattle.split_proof.proofs.MatchingImports.{first, func_offered, table_offered, memory_offered, global_offered, slots_offered, second, second_tree, second_keeps, supply, by_field, slots_import}
 
 -- ---- lists ----
 
@@ -87,6 +87,9 @@ module _ (namespace : ℕ → List ℕ) (names : SplitNames) (m : Module) (holds
   abbrev pub given : Import → Option ExternalValue
   given = supply namespace names m holds moved can primary_holds own before slots i s typed
 
+  abbrev named_by_field : (field : List ℕ) (d : ImportDesc) → given (record { «module» = names.import_namespace; field = field; desc = d }) ≡ (export_named (first namespace names m holds moved can primary_holds own before slots).exports field >>= (address_in i))
+  named_by_field = by_field namespace names m holds moved can primary_holds own before slots i s typed
+
   abbrev for_slots : Import
   for_slots = slots_import namespace names m holds moved can primary_holds own before slots i s typed
 
@@ -127,7 +130,7 @@ module _ (namespace : ℕ → List ℕ) (names : SplitNames) (m : Module) (holds
   part k space value (x ∷ is) there h =
       let d = slice_get_there (entities m space) x (there 0 x refl) in
       ap (λ o. filter_map (at_kind k) (cons_option (option_map (λ d. record { «module» = names.import_namespace; field = name_from_primary names.export_prefix space x; desc = d }) o) (imports_from_primary names.import_namespace names.export_prefix m space is))) d.1
-      ∙ ap₂ cons_option (h 0 x refl) (part k space value is (λ n. there (suc n)) (λ n. h (suc n)))
+      ∙ ap₂ cons_option (ap (λ o. o >>= address_of k) (named_by_field (name_from_primary names.export_prefix space x) d.0) ∙ h 0 x refl) (part k space value is (λ n. there (suc n)) (λ n. h (suc n)))
 
   within : (space : Space) (n x : ℕ) → slice_get (shared space) n ≡ Some x → x < length (entities m space)
   within space n x at = (shared_within m moved own space n x at).0
@@ -149,7 +152,7 @@ module _ (namespace : ℕ → List ℕ) (names : SplitNames) (m : Module) (holds
       let w = shared_within m moved own Globals n x at in ap (λ e. (e >>= (address_in i)) >>= address_of k) (global_exported namespace names.export_prefix m moved primary_holds own before slots x w.0 w.1) ∙ h x)
 
   slots_part : (k : Space) → at_kind k for_slots ≡ ((table_there (slot_table m) >>= λ a. Some (TableAt a)) >>= address_of k)
-  slots_part k = ap (λ e. (e >>= (address_in i)) >>= address_of k) (slots_exported namespace names.export_prefix m moved primary_holds)
+  slots_part k = ap (λ o. o >>= address_of k) (named_by_field (slots_name names.export_prefix) (im.Table (slot_table_type (length moved)))) ∙ ap (λ e. (e >>= (address_in i)) >>= address_of k) (slots_exported namespace names.export_prefix m moved primary_holds)
 
   module _ (things : List ExternalValue) (supplied : all_there given loads.imports ≡ Some things) where
     -- The instance of the secondary module.

@@ -13,7 +13,8 @@ use Rattle.wasm_tree.specs.declared.module.ImportDesc.TheVariants as im
 use Rattle.wasm_valid_bodies.specs.Typing.{only}
 use Rattle.wasm_valid.specs.declared.kinds.ItemKind.TheVariants as kind
 use Rattle.wasm_meaning.specs.Prelude.{overwrite, RefVal, FuncRef, Val, Inst, Func, Code, Table, Memory, Global, Elem, Store, SetTable, DropElem, declared, ref_of, num_of, changed, ExternalValue, TableAt, Filled, PlacedSegment, new_elem, global_with, elem_with, store_with, const_value}
-use Rattle.wasm_meaning.specs.Prelude.{joined_stores, is_match, meets, meets_most, segments_in, run_elem_with, run_data_with, one_by_one, and_then, Added, added, all_match, own_segments}
+use Rattle.wasm_meaning.specs.Prelude.{joined_stores, is_match, meets, meets_most, segments_in, run_elem_with, run_data_with, one_by_one, and_then, Added, added, all_match, own_segments, if_no_start}
+use Rattle.wasm_meaning.specs.Sequential.{added_with}
 use Rattle.wasm_meaning.specs.World as world
 use Rattle.index_remap.specs.declared.remap.Remap.{Remap}
 use Rattle.index_remap.specs.Prelude.{declared_refs, declaring, new_const, new_func}
@@ -320,4 +321,4 @@ module _ (namespace : ℕ → List ℕ) (names : SplitNames) (m : Module) (holds
   }
 
   pub it_loads : Loads namespace names m moved own before i s
-  it_loads = record { added = loaded; links = ap (λ o. o >>= (added s second)) supplied.1 ∙ added_is; fills = trapped_not; is_loaded = is_loaded }
+  it_loads = record { added = loaded; links = ap (λ start. if_no_start start (added_with (given namespace names m holds moved can primary_holds own before slots i s typed) s second)) kept.start ∙ ap (λ o. o >>= (added s second)) supplied.1 ∙ added_is; fills = trapped_not; is_loaded = is_loaded }

@@ -71,7 +71,7 @@ abbrev pub subtracting_secondary : Module
 subtracting_secondary = record empty { types = takes_two ∷ []; imports = slots_import 1 ∷ []; funcs = subtracting.funcs; elems = segment 0 0 (const.Func 0 ∷ []) ∷ [] }
 
 abbrev pub subtracting_world : LoaderWorld
-subtracting_world = in_place_of subtracting subtracting_primary (one_slot takes_two subtracting_secondary)
+subtracting_world = in_place_of primary_word subtracting subtracting_primary (one_slot takes_two subtracting_secondary)
 
 pub subtracting_is_split : pair_world names subtracting (0 ∷ []) ≡ subtracting_world
 unfolding primary_with secondary_with digits
@@ -104,7 +104,7 @@ the_slots_have_no_name = refl
 
 -- The split of `calling`, of which the second function moves.
 abbrev pub calling_world : LoaderWorld
-calling_world = in_place_of calling calling_primary (one_slot gives_number calling_secondary)
+calling_world = in_place_of primary_word calling calling_primary (one_slot gives_number calling_secondary)
 
 pub calling_is_split : pair_world names calling (1 ∷ []) ≡ calling_world
 unfolding primary_with secondary_with digits
@@ -152,7 +152,7 @@ abbrev waiting_secondary : Module
 waiting_secondary = record empty { types = waiting.types; imports = slots_import 1 ∷ []; funcs = func 1 (i.I32Const (pos 7) ∷ []) ∷ []; elems = segment 0 0 (const.Func 0 ∷ []) ∷ [] }
 
 abbrev waiting_world : LoaderWorld
-waiting_world = in_place_of waiting waiting_primary (one_slot gives_number waiting_secondary)
+waiting_world = in_place_of primary_word waiting waiting_primary (one_slot gives_number waiting_secondary)
 
 waiting_is_split : pair_world names waiting (2 ∷ []) ≡ waiting_world
 unfolding primary_with secondary_with digits
@@ -206,7 +206,7 @@ starting_secondary = record empty {
 }
 
 abbrev starting_world : LoaderWorld
-starting_world = in_place_of starting starting_primary (one_slot nothing starting_secondary)
+starting_world = in_place_of primary_word starting starting_primary (one_slot nothing starting_secondary)
 
 starting_is_split : pair_world names starting (1 ∷ []) ≡ starting_world
 unfolding primary_with secondary_with digits
@@ -239,7 +239,7 @@ trapping_primary = record trapping {
 }
 
 abbrev trapping_world : LoaderWorld
-trapping_world = in_place_of trapping trapping_primary (one_slot nothing (record empty { types = nothing ∷ []; imports = slots_import 1 ∷ []; funcs = trapping.funcs; elems = segment 0 0 (const.Func 0 ∷ []) ∷ [] }))
+trapping_world = in_place_of primary_word trapping trapping_primary (one_slot nothing (record empty { types = nothing ∷ []; imports = slots_import 1 ∷ []; funcs = trapping.funcs; elems = segment 0 0 (const.Func 0 ∷ []) ∷ [] }))
 
 trapping_is_split : pair_world names trapping (0 ∷ []) ≡ trapping_world
 unfolding primary_with secondary_with digits
@@ -270,7 +270,7 @@ two_primary = record calling {
 }
 
 abbrev two_world : LoaderWorld
-two_world = in_place_of calling two_primary
+two_world = in_place_of primary_word calling two_primary
     (record {
       «module» = record empty { types = gives_number ∷ []; imports = slots_import 2 ∷ []; funcs = func 0 (i.I32Const (pos 1) ∷ i.CallIndirect 0 0 ∷ []) ∷ []; elems = segment 0 0 (const.Func 0 ∷ []) ∷ [] };
       placeholders = ((numbered_placeholder 48, 48 ∷ []), gives_number) ∷ [];

@@ -5,10 +5,11 @@ use Rattle.base_lists.proofs.Common.{length-append, length-map, list_any-append,
 use Rattle.base_lists.specs.Options.{◌>>=◌, all_there}
 use Rattle.base_lists.specs.Places.{numbers}
 use Rattle.wasm_tree_spec.specs.Prelude.{Functions, FuncType, Module}
-use Rattle.wasm_meaning.specs.Prelude.{overwrite, Pair, FuncRef, RefVal, Inst, Store, Environment, export_named, address_in, own_count, added, Run, Secondary, LoaderWorld, LoaderRun, secondary_of, store_loaded}
+use Rattle.wasm_meaning.specs.Prelude.{overwrite, Pair, FuncRef, RefVal, Inst, Store, Environment, own_count, added, supplied_by_primary, Run, Secondary, LoaderWorld, LoaderRun, secondary_of, store_loaded}
 use Rattle.run_simulation.specs.Prelude.{Pairing, CodeAt}
 use Rattle.run_simulation.specs.WiderRelations.{CodeStaysRelated, StoresStayRelated, RunsStayRelated}
 use Rattle.world_simulation.specs.StoreExtension.{StaysIn, AddedModulesExtend}
+use Rattle.world_simulation.proofs.AddedModuleExtension.{without_start}
 use Rattle.split_spec.specs.declared.names.SplitNames.{SplitNames}
 use Rattle.split_spec.specs.Prelude.{primary_with, HasSlots, secondary_with}
 use Rattle.split_proof.specs.SplitWorlds.{placeholders_for, split_world, type_in}
@@ -104,7 +105,8 @@ module _ (laws : SettleLaws) (namespace : ℕ → List ℕ) (names : SplitNames)
     kept = loads_keep laws.begin laws.stores_stay namespace names m moved owns g env first second alike x.own x.before x.slots loaded r.store q.run.store after loads.added.inst loads.is_loaded h.funcs.moves h.related.store
 
     stays : StaysIn q.run.store after
-    stays = let things = and_then_is (all_there (λ x. export_named (primary_with namespace names.export_prefix m moved).exports x.field >>= (address_in second)) module_loaded.«module».imports) (added q.run.store module_loaded.«module») loads.added loads.links in
+    stays = let things = and_then_is (all_there (supplied_by_primary w.import_namespace w.primary second) module_loaded.«module».imports) (added q.run.store module_loaded.«module») loads.added
+        (without_start module_loaded.«module».start _ loads.added loads.links) in
         laws.added q.run.store module_loaded.«module» things.0 loads.added things.2
 
     written : (zs : List RefVal) × (overwrite h.funcs.table.slots x.before (references count (length x.own)) ≡ Some zs) × (slice_get after.tables (slot_table_address env m) ≡ Some (record h.funcs.table { slots = zs }))

@@ -46,13 +46,13 @@ the_difference : events (alone subtracting) [] subtraction 20 ≡ Linked ∷ (nu
 unfolding out-Instr denote.Hole.Carrier.out wrapped un_from un_to un_value bin_from bin_to bin_value
 the_difference = refl
 
-another_difference : events_loaded (in_place_of subtracting reversing (one_slot takes_two subtracting_secondary)) [] subtraction 20 ≡ Linked ∷ (number 4294967294 ∷ [])
+another_difference : events_loaded (in_place_of primary_word subtracting reversing (one_slot takes_two subtracting_secondary)) [] subtraction 20 ≡ Linked ∷ (number 4294967294 ∷ [])
 unfolding out-Instr denote.Hole.Carrier.out wrapped un_from un_to un_value bin_from bin_to bin_value
 another_difference = refl
 
-arguments_in_reverse_are_refused : ObservationallyEquivalent subtracting (in_place_of subtracting reversing (one_slot takes_two subtracting_secondary)) 2 → ⊥
+arguments_in_reverse_are_refused : ObservationallyEquivalent subtracting (in_place_of primary_word subtracting reversing (one_slot takes_two subtracting_secondary)) 2 → ⊥
 arguments_in_reverse_are_refused =
-    refused subtracting (in_place_of subtracting reversing (one_slot takes_two subtracting_secondary)) 2 subtraction 20 _ _ another_difference the_difference (λ p. let k : gives_second 2 (Linked ∷ (number 4294967294 ∷ p.0)) ≡ true = ap (gives_second 2) p.1 in cc)
+    refused subtracting (in_place_of primary_word subtracting reversing (one_slot takes_two subtracting_secondary)) 2 subtraction 20 _ _ another_difference the_difference (λ p. let k : gives_second 2 (Linked ∷ (number 4294967294 ∷ p.0)) ≡ true = ap (gives_second 2) p.1 in cc)
 
 -- ---- a view that has the slots ----
 
@@ -87,7 +87,7 @@ two_primary = record two {
 
 -- The functions of the secondary module are in the slots in this order.
 abbrev in_order : (first second : ℕ) → LoaderWorld
-in_order first second = in_place_of two two_primary (two_slots gives_number (record empty { types = gives_number ∷ []; imports = slots_import 2 ∷ []; funcs = two.funcs; elems = segment 0 0 (const.Func first ∷ const.Func second ∷ []) ∷ [] }))
+in_order first second = in_place_of primary_word two two_primary (two_slots gives_number (record empty { types = gives_number ∷ []; imports = slots_import 2 ∷ []; funcs = two.funcs; elems = segment 0 0 (const.Func first ∷ const.Func second ∷ []) ∷ [] }))
 
 seven_is_seen : events (alone two) [] (Call f [] ∷ []) 20 ≡ Linked ∷ (number 7 ∷ [])
 unfolding out-Instr denote.Hole.Carrier.out wrapped
@@ -124,7 +124,7 @@ referring_primary = record referring {
 
 -- Function 0 is the imported trampoline, and function 1 the own function of the secondary module.
 abbrev naming : ℕ → LoaderWorld
-naming func_named = in_place_of referring referring_primary
+naming func_named = in_place_of primary_word referring referring_primary
     (one_slot gives_reference (record empty {
       types = gives_reference ∷ [];
       imports = import primary_word (shared_word 102 48) (im.Func 0) ∷ slots_import 1 ∷ [];
@@ -163,7 +163,7 @@ giving = record empty { types = gives_number ∷ []; funcs = func 0 (i.I32Const 
 
 -- The function of the secondary module calls itself.
 abbrev pub endless : LoaderWorld
-endless = in_place_of giving
+endless = in_place_of primary_word giving
     (record giving {
       imports = import placeholder_word (48 ∷ []) (im.Func 0) ∷ [];
       funcs = func 0 (i.I32Const (pos 0) ∷ i.CallIndirect 0 0 ∷ []) ∷ [];
@@ -194,7 +194,7 @@ holding = record giving { tables = table 1 ∷ []; exports = export f (ex.Func 0
 
 -- The slot is the first entry of the table g, which has this number of entries.
 abbrev pub in_own_table : ℕ → LoaderWorld
-in_own_table count = record (in_place_of holding
+in_own_table count = record (in_place_of primary_word holding
     (record holding {
       imports = import placeholder_word (48 ∷ []) (im.Func 0) ∷ [];
       funcs = func 0 (i.I32Const (pos 0) ∷ i.CallIndirect 0 0 ∷ []) ∷ [];

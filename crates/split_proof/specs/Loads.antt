@@ -2,14 +2,12 @@
 -- what the primary module's instance has, its functions come after all others in the store, and
 -- references to them are put into their slots.
 use Rattle.std.specs.Prelude.{◌≡◌, ℕ, ◌+◌, ◌^◌, ◌<◌, true, false, None, List, length, map, Some, slice_get, slice_index}
-use Rattle.base_lists.specs.Options.{◌>>=◌}
 use Rattle.base_lists.specs.Places.{numbers}
 use Rattle.wasm_tree_spec.specs.Prelude.{Functions, Tables, Memories, Globals, Module, IsBounded, funcs_of, tables_of, memories_of, globals_of}
 use Rattle.wasm_tree.specs.declared.module.Func as tree
 use Rattle.wasm_valid.specs.Prelude.{IsValid}
-use Rattle.wasm_meaning.specs.Prelude.{overwrite, RefVal, FuncRef, Inst, Func, Table, Memory, Global, Elem, Data, Store, export_named, address_in, Added}
+use Rattle.wasm_meaning.specs.Prelude.{overwrite, RefVal, FuncRef, Inst, Func, Table, Memory, Global, Elem, Data, Store, Added, secondary_added}
 use Rattle.wasm_meaning.specs.World as world
-use Rattle.wasm_meaning.specs.Sequential.{added_with}
 use Rattle.index_remap.specs.Prelude.{new_func}
 use Rattle.world_simulation.specs.InstantiatedStores.{Stands}
 use Rattle.world_simulation.specs.TypedInstances.{IsTyped}
@@ -63,7 +61,7 @@ pub record IsLoaded (m : Module) (moved own : List ℕ) (before : ℕ) (primary 
 -- the secondary module links, none of its segments traps, and it is loaded
 pub record Loads (namespace : ℕ → List ℕ) (names : SplitNames) (m : Module) (moved own : List ℕ) (before : ℕ) (primary : Inst) (s : Store) : Type 0 where
   pub added : Added
-  pub links : added_with (λ x. export_named (primary_with namespace names.export_prefix m moved).exports x.field >>= (address_in primary)) s (secondary_with names m moved own before) ≡ Some added
+  pub links : secondary_added names.import_namespace (primary_with namespace names.export_prefix m moved) primary (secondary_with names m moved own before) s ≡ Some added
   pub fills : added.filled.trapped ≡ false
   pub is_loaded : IsLoaded m moved own before primary added.inst s added.filled.store
 

@@ -7,8 +7,7 @@ use Rattle.wasm_tree_spec.specs.Prelude.{Module, IsBounded}
 use Rattle.wasm_valid.specs.Prelude.{IsValid}
 use Rattle.base_simulation.specs.Machines.{state_after}
 use Rattle.wasm_meaning.specs.Prelude.{Gives, Val, Inst, Store, Entry, CallsPlaceholder, Environment, is_environment, alone, Added, Run, Move, Steps, transition, Same, events, Secondary, LoaderWorld}
-use Rattle.wasm_meaning.specs.Prelude.{LoaderRun, secondary_of, tick_loader, fresh_loader, events_loaded}
-use Rattle.wasm_meaning.specs.Loader.{secondary_added}
+use Rattle.wasm_meaning.specs.Prelude.{LoaderRun, secondary_added, secondary_of, tick_loader, fresh_loader, events_loaded}
 use Rattle.std.specs.Prelude.{IsTrue}
 use Rattle.split_spec.specs.declared.names.SplitNames.{SplitNames}
 use Rattle.split_spec.specs.Prelude.{params_of, namespace_taken, prefix_taken}
@@ -52,7 +51,7 @@ pub record CanBeLoaded (w : LoaderWorld) (q : LoaderRun) (secondary : ℕ) (s : 
   pub loads : Secondary
   pub is_secondary : slice_get w.secondaries secondary ≡ Some loads
   pub added : Added
-  pub links : secondary_added w inst loads.«module» s ≡ Some added
+  pub links : secondary_added w.import_namespace w.primary inst loads.«module» s ≡ Some added
   pub fills : added.filled.trapped ≡ false
 
 -- if the next step calls a placeholder of a secondary module that is not loaded, that module can be

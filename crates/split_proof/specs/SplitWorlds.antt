@@ -15,9 +15,16 @@ use Rattle.split_spec.specs.Prelude.{slot_table, primary_with, secondary_with}
 abbrev pub exports_under : (input primary : Module) → List (Text × ExportDesc)
 exports_under input primary = filter_map (λ e. option_map (λ d. (e.name, d)) (export_named primary.exports e.name)) input.exports
 
--- these modules in place of the input module; the slot table comes after the tables of that one
-abbrev pub in_place_of : (input primary : Module) → List Secondary → LoaderWorld
-in_place_of input primary secondaries = record { primary = primary; secondaries = secondaries; slot_table = slot_table input; view = exports_under input primary }
+-- these modules in place of the input module; secondary modules import under this namespace, and the
+-- slot table comes after the tables of the input module
+abbrev pub in_place_of : (import_namespace : Text) (input primary : Module) → List Secondary → LoaderWorld
+in_place_of import_namespace input primary secondaries = record {
+  primary = primary;
+  secondaries = secondaries;
+  import_namespace = import_namespace;
+  slot_table = slot_table input;
+  view = exports_under input primary;
+}
 
 -- ---- the modules of a split ----
 
@@ -41,7 +48,7 @@ secondaries_for namespace names m moved before (own ∷ owns) =
 
 -- a split under its loader; each list has the functions of one secondary module
 abbrev pub split_world : (namespace : ℕ → List ℕ) → SplitNames → Module → (moved : List ℕ) → List (List ℕ) → LoaderWorld
-split_world namespace names m moved owns = in_place_of m (primary_with namespace names.export_prefix m moved) (secondaries_for namespace names m moved 0 owns)
+split_world namespace names m moved owns = in_place_of names.import_namespace m (primary_with namespace names.export_prefix m moved) (secondaries_for namespace names m moved 0 owns)
 
 -- the same with one secondary module, which has all moved functions, and with one namespace
 abbrev pub pair_world : SplitNames → Module → (moved : List ℕ) → LoaderWorld
@@ -49,4 +56,5 @@ pair_world names m moved = split_world (λ slot. names.placeholder_namespace) na
 
 -- these two modules in place of the input module; all placeholders belong to the secondary one
 abbrev pub pair_in_place : SplitNames → Module → (moved : List ℕ) → (primary secondary : Module) → LoaderWorld
-pair_in_place names m moved primary secondary = in_place_of m primary (record { «module» = secondary; placeholders = placeholders_for (λ slot. names.placeholder_namespace) m 0 moved } ∷ [])
+pair_in_place names m moved primary secondary =
+    in_place_of names.import_namespace m primary (record { «module» = secondary; placeholders = placeholders_for (λ slot. names.placeholder_namespace) m 0 moved } ∷ [])

@@ -8,7 +8,7 @@ use Rattle.wasm_tree.specs.declared.module.DataMode.TheVariants as data'
 use Rattle.wasm_meaning.specs.Prelude.{Gives, Traps, IllTyped, overwrite, RefVal, Val, Inst, Table, Memory, Store, Entry, Ran, CallsOwn, WaitsGrowth, CallsPlaceholder, EndsCall, SetTable, SetMemory, DropElem, DropData, changed, Filled, PlacedSegment, joined_stores, value_of, placed_elems}
 use Rattle.wasm_meaning.specs.Prelude.{placed_datas, segments_in, or_trapped, copy_slots, run_elem_with, copy_bytes, run_data_with, and_then, one_by_one, Added, added, Run, Event, Transition, Steps, Makes, made, transition, run_after, LoaderWorld, LoaderRun, secondary_of, store_loaded, loader_made}
 use Rattle.wasm_meaning.specs.Prelude.{StepsWriteWhatTheyTouch, next_inst, const_value, own_segments, ExternalValue, store_with}
-use Rattle.wasm_meaning.specs.Loader.{loader_with, secondary_added, call_answered, secondary_called, placeholder_called}
+use Rattle.wasm_meaning.specs.Loader.{loader_with, if_no_start, secondary_added, call_answered, secondary_called, placeholder_called}
 use Rattle.run_simulation.specs.Prelude.{IsBegun}
 use Rattle.world_simulation.specs.Prelude.{offset_in}
 use Rattle.world_simulation.proofs.SegmentRoom.{then_holds}
@@ -115,13 +115,18 @@ added_extends s m things a h =
 
 -- ---- a step under a loader ----
 
+-- A secondary module that links has no start, so it is added as any module is.
+pub without_start : (start : Option ℕ) (o : Option Added) (a : Added) → if_no_start start o ≡ Some a → o ≡ Some a
+without_start None o a e = e
+without_start (Some f) o a e = cc
+
 loaded_stays : (w : LoaderWorld) (i : Inst) (m : Module) (b : Bool) (s : Store) → StaysIn s (store_loaded w i m b s).store
 loaded_stays w i m true s = stays_in s s (stays s)
-loaded_stays w i m false s = by (secondary_added w i m s) refl
+loaded_stays w i m false s = by (secondary_added w.import_namespace w.primary i m s) refl
   where
-    by : (o : Option Added) → secondary_added w i m s ≡ o → StaysIn s (or_trapped s (option_and_then (λ (a : Added). Some a.filled) o)).store
+    by : (o : Option Added) → secondary_added w.import_namespace w.primary i m s ≡ o → StaysIn s (or_trapped s (option_and_then (λ (a : Added). Some a.filled) o)).store
     by None e = stays_in s s (stays s)
-    by (Some a) e = let things = and_then_is _ (added s m) a e in added_extends s m things.0 a things.2
+    by (Some a) e = let things = and_then_is _ (added s m) a (without_start m.start _ a e) in added_extends s m things.0 a things.2
 
 module _ (writes : StepsWriteWhatTheyTouch) (w : LoaderWorld) (q : LoaderRun) (begun : IsBegun q.run.phase) where
   -- The call of a placeholder keeps what is in the store, whether or not a module is loaded for it.

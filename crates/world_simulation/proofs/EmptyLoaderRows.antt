@@ -19,7 +19,7 @@ one_import = record { «module» = 112 ∷ []; field = 48 ∷ []; desc = im.Func
 
 -- The loader has a primary module with one import, and these secondary modules.
 abbrev loading : List Secondary → LoaderWorld
-loading secondaries = record { primary = importing (one_import ∷ []); secondaries = secondaries; slot_table = 0; view = [] }
+loading secondaries = record { primary = importing (one_import ∷ []); secondaries = secondaries; import_namespace = []; slot_table = 0; view = [] }
 
 -- A loader with a placeholder for that import.
 abbrev a_loader : LoaderWorld
