@@ -116,9 +116,9 @@ function named(name) {
 const alone = (module) => ({ parts: [{ name: made("None"), module }], view: module.exports.map((e) => ({ pair: [e.name, { part: 0n, what: e.desc }] })) });
 
 // the world of a split: what the module exports is seen, under the names and as what the primary exports
-const inPlaceOf = (input) => (primary) => (secondaries) => {
+const inPlaceOf = (import_namespace) => (input) => (primary) => (secondaries) => {
   const view = input.exports.map(({ name }) => ({ pair: [name, primary.exports.find((e) => text(e.name) === text(name)).desc] }));
-  return { primary, secondaries, slot_table: BigInt(input.tables.length), view };
+  return { primary, secondaries, import_namespace, slot_table: BigInt(input.tables.length), view };
 };
 
 const closure = (known, names, local) => (names.length ? (given) => closure(known, names.slice(1), { ...local, [names[0]]: given }) : value(known.term, local));
@@ -325,7 +325,7 @@ class Embedder {
   }
 
   ownTable({ ty, limits, entries }) {
-    const table = new WebAssembly.Table({ element: ty.tag === "Func" ? "anyfunc" : "externref", ...extent(entries.length, limits) });
+    const table = new WebAssembly.Table({ element: ty.tag === "Func" ? "anyfunc" : "externref", ...extent(entries.length, limits) }, null);
     for (const [n, entry] of entries.entries()) if (entry.tag !== "Null") table.set(n, this.received(null, entry));
     return table;
   }
@@ -496,7 +496,8 @@ class Embedder {
 
   set(thing, index, given) {
     if (thing instanceof WebAssembly.Memory) new Uint8Array(thing.buffer)[index] = Number(given.args[0]);
-    else if (thing instanceof WebAssembly.Global) thing.value = typeof thing.value === "bigint" ? given.args[0] : Number(given.args[0]);
+    else if (thing instanceof WebAssembly.Global && given.tag === "Number") thing.value = typeof thing.value === "bigint" ? given.args[0] : Number(given.args[0]);
+    else if (thing instanceof WebAssembly.Global) thing.value = this.received(null, given);
     else thing.set(index, this.received(null, given));
     this.events.push(made("Done"));
   }
@@ -547,11 +548,12 @@ const SLOTS = "its slots";
 
 // a primary whose placeholders are functions of the loader: the first call of one instantiates the secondary that has its slot
 class Loader extends Embedder {
-  constructor({ primary, secondaries, slot_table, view }, environment, moves, expected) {
+  constructor({ primary, secondaries, import_namespace, slot_table, view }, environment, moves, expected) {
     const slots = { pair: [[...Buffer.from(SLOTS)], made("Table", slot_table)] };
     const entities = [...view, slots].map(({ pair: [name, what] }) => ({ pair: [name, { part: 0n, what }] }));
     super({ parts: [{ name: made("None"), module: primary }], view: entities }, environment, moves, expected);
-    this.secondaries = secondaries.map(({ module }) => ({ module: { ...module, start: made("None") }, isLoaded: false }));
+    this.secondaries = secondaries.map(({ module }) => ({ module, isLoaded: false }));
+    this.namespace = string(import_namespace);
     const slotted = secondaries.flatMap(({ placeholders }, at) => placeholders.map(({ pair: [{ pair }, type] }) => ({ pair, type, secondary: this.secondaries[at] })));
     this.placeholders = slotted.map((one, slot) => ({ ...one, callee: asEngineHas(one.type, (...args) => this.called(slot, args)) }));
   }
@@ -574,8 +576,9 @@ class Loader extends Embedder {
 
   load(secondary, exports) {
     secondary.isLoaded = true;
-    const objects = {};
-    for (const i of secondary.module.imports) (objects[string(i.module)] ??= {})[string(i.field)] = exports[string(i.field)];
+    const { start, imports } = secondary.module;
+    if (start.tag !== "None" || imports.some((i) => string(i.module) !== this.namespace)) throw new Refusal();
+    const objects = { [this.namespace]: exports };
     try {
       new WebAssembly.Instance(new WebAssembly.Module(moduleBytes(secondary.module)), objects);
     } catch (error) {

@@ -1,5 +1,5 @@
 -- Wrong splits and a wrong view, each with a trace that is no trace of the module, by computation.
-use Rattle.base_lists.proofs.Common.{◌≡◌, refl, sym, ap, subst, ℕ, zero, ◌+◌, ◌*◌, arith, List, [], ◌∷◌, Bool, true, false, pos, nat_eq}
+use Rattle.base_lists.proofs.Common.{◌≡◌, refl, sym, ap, subst, ℕ, zero, ◌+◌, ◌*◌, arith, List, [], ◌∷◌, ◌++◌, Some, Bool, true, false, pos, nat_eq}
 use Rattle.wasm_tree.specs.declared.instr.Instr.{out-Instr}
 use Rattle.wasm_tree.specs.declared.instr.Instr.TheVariants as i
 use Rattle.wasm_tree.specs.declared.types.RefType.TheVariants.{Func as func_ref}
@@ -10,8 +10,8 @@ use Rattle.wasm_tree.specs.declared.module.ExportDesc.TheVariants as ex
 use Rattle.wasm_tree.specs.declared.module.ImportDesc.TheVariants as im
 use Rattle.wasm_num.specs.Operations.{wrapped, un_from, un_to, un_value, bin_from, bin_to, bin_value}
 use Rattle.index_remap.specs.Prelude.{declaring}
-use Rattle.wasm_meaning.specs.Prelude.{Null, Number, Function, alone, Event, Linked, Returned, Got, BadMove, Move, Call, Take, Get, Size, Named, IsPrefix, events, LoaderWorld, events_loaded}
-use Rattle.split_spec.specs.Examples.{placeholder_word, primary_word, slots_word, shared_word, empty, func, import, export, table, segment, gives_number, takes_two, slots_import}
+use Rattle.wasm_meaning.specs.Prelude.{Null, Number, Function, alone, Event, Linked, Returned, Trapped, Got, BadMove, Move, Call, Take, Get, Size, Named, IsPrefix, events, LoaderWorld, events_loaded}
+use Rattle.split_spec.specs.Examples.{placeholder_word, primary_word, slots_word, shared_word, empty, func, import, export, table, segment, nothing, gives_number, takes_two, slots_import}
 use Rattle.split_proof.specs.SplitWorlds.{in_place_of}
 use Rattle.split_proof.specs.SplitLaws.{ObservationallyEquivalent}
 use Rattle.split_proof.proofs.SmallRuns.{f, g, number, one_slot, two_slots, subtracting, subtracting_primary, subtracting_secondary, subtracting_world}
@@ -53,6 +53,34 @@ another_difference = refl
 arguments_in_reverse_are_refused : ObservationallyEquivalent subtracting (in_place_of primary_word subtracting reversing (one_slot takes_two subtracting_secondary)) 2 → ⊥
 arguments_in_reverse_are_refused =
     refused subtracting (in_place_of primary_word subtracting reversing (one_slot takes_two subtracting_secondary)) 2 subtraction 20 _ _ another_difference the_difference (λ p. let k : gives_second 2 (Linked ∷ (number 4294967294 ∷ p.0)) ≡ true = ap (gives_second 2) p.1 in cc)
+
+-- ---- secondary modules that do not link ----
+
+-- This module in place of the secondary one.
+abbrev loading : Module → LoaderWorld
+loading second = in_place_of primary_word subtracting subtracting_primary (one_slot takes_two second)
+
+-- It imports the slots from the namespace of the placeholders.
+abbrev of_the_placeholders : Module
+of_the_placeholders = record subtracting_secondary { imports = import placeholder_word slots_word (im.Table (table 1)) ∷ [] }
+
+-- It has a start function, which does nothing.
+abbrev with_a_start : Module
+with_a_start = record subtracting_secondary { types = takes_two ∷ nothing ∷ []; funcs = subtracting.funcs ++ func 1 [] ∷ []; start = Some 1 }
+
+the_import_has_no_module : events_loaded (loading of_the_placeholders) [] subtraction 20 ≡ Linked ∷ (Trapped ∷ [])
+unfolding out-Instr denote.Hole.Carrier.out wrapped un_from un_to un_value bin_from bin_to bin_value
+the_import_has_no_module = refl
+
+the_start_is_not_allowed : events_loaded (loading with_a_start) [] subtraction 20 ≡ Linked ∷ (Trapped ∷ [])
+unfolding out-Instr denote.Hole.Carrier.out wrapped un_from un_to un_value bin_from bin_to bin_value
+the_start_is_not_allowed = refl
+
+a_wrong_namespace_is_refused : ObservationallyEquivalent subtracting (loading of_the_placeholders) 2 → ⊥
+a_wrong_namespace_is_refused = refused subtracting (loading of_the_placeholders) 2 subtraction 20 _ _ the_import_has_no_module the_difference (λ p. let k = p.1 in cc)
+
+a_start_is_refused : ObservationallyEquivalent subtracting (loading with_a_start) 2 → ⊥
+a_start_is_refused = refused subtracting (loading with_a_start) 2 subtraction 20 _ _ the_start_is_not_allowed the_difference (λ p. let k = p.1 in cc)
 
 -- ---- a view that has the slots ----
 
