@@ -8,7 +8,7 @@ use Rattle.index_remap.specs.Prelude.{declared, fits_tree, renumbered_tree}
 use Rattle.module_limits.specs.Counts.{or_above, over_limit}
 use Rattle.split_spec.specs.declared.names.SplitNames.{SplitNames}
 use Rattle.split_spec.specs.Prelude.{moved_params, namespace_taken, prefix_taken, marks_from_primary, left_marks, primary_map, primary_tree, secondary_imports, secondary_map, secondary_tree}
-use Rattle.split_spec.specs.Prelude.{place_among}
+use Rattle.split_spec.specs.Prelude.{place_among, slot_table}
 use Rattle.split_slots.specs.declared.input_survey.Survey.{Survey}
 use Rattle.split_slots.specs.declared.module_drafts.Draft.{Draft}
 use Rattle.split_slots.specs.declared.module_drafts.Drafts.{Drafts}
@@ -21,6 +21,7 @@ pub record IsSurvey (m : Module) (moved : List ℕ) (s : Survey) : Type 0 where
   pub slots : s.slots.items ≡ map (place_among moved) (numbers 0 (length (funcs_of m)))
   pub left : s.left ≡ left_marks m moved
   pub marks : (space : Space) → marks_in s.marks space ≡ marks_from_primary m moved moved space
+  pub table : s.table ≡ slot_table m
 
 -- ---- counts ----
 

@@ -29,6 +29,8 @@ pub(crate) struct Survey {
     pub(crate) left: Items<bool>,
     /// What the moved functions name, leaving out calls of moved functions.
     pub(crate) marks: Marks,
+    /// The index of the slot table, which comes after the tables of the module.
+    pub(crate) table: u32,
 }
 
 /// Surveys the module for the split that moves the functions of `moved`.
@@ -51,5 +53,6 @@ pub(crate) fn surveyed(alloc: Global, module: &Module, moved: &[u32]) -> Result<
         slots,
         left,
         marks,
+        table: module.table_space() as u32,
     })
 }

@@ -129,14 +129,13 @@ fn parted(
     ensures secondary { IfOk result (λ draft. draft.tree ≡ secondary.secondary_tree names.now tree.old moved.now moved.now 0) }
     ensures map { IfOk result (λ draft. draft.map ≡ secondary.secondary_map tree.old moved.now moved.now) }
 {
-    let table = tree.table_space() as u32;
     let base = tree.func_space() as u32;
     let frame = frame_of(alloc, tree, moved, survey, names)?;
     let own = part_module(alloc, tree, moved, survey, added, names)?;
     let calls = Calls {
         types: survey.types.as_slice(),
         slots: &survey.slots,
-        table,
+        table: survey.table,
         base,
         first: 0,
         end: moved.len() as u32,

@@ -97,8 +97,7 @@ fn exports_added(
     ensures none { IsOk result → MaySplit names.now «module».now moved.now }
     ensures fault { IfErr result (λ e. (e ≡ OutOfMemory) ⊎ (split_fault names.now «module».now moved.now ≡ Some e)) }
 {
-    let table = module.table_space() as u32;
-    let added = added_exports(alloc, &names.export_prefix, &survey.marks, table)?;
+    let added = added_exports(alloc, &names.export_prefix, &survey.marks, survey.table)?;
     let types = survey.types.as_slice();
     refuse(alloc, module, types, moved, added.as_slice(), names)?;
     Ok(added)

@@ -96,7 +96,7 @@ pub(crate) fn part_module(
     ensures own { IfOk result (λ own. own ≡ spec.defined_at tree.old moved.now) }
 {
     let first = tree.imported_funcs() as u32;
-    let table = tree.table_space() as u32;
+    let table = survey.table;
     let types = survey.types.as_slice();
     let left = survey.left.as_slice();
     let calls = Calls {

@@ -42,4 +42,5 @@ returns c =
       slots = slots;
       left = c.in_ok-left.ensures ∙ left_are c.well_typed_bodies_name_declared_functions.ensures m holds moved there c.deref.result.now c.deref-2.result.now (c.deref.ensures.value ∙ slots) (c.deref-2.ensures.value ∙ c.in_ok-needed.ensures);
       marks = λ space. c.in_ok-marks.ensures space ∙ marks_are m moved there c.deref-3.result.now (c.deref-3.ensures.value ∙ slots) moved space;
+      table = c.table_space.ensures;
     }

@@ -38,10 +38,10 @@ pub refuse-requires-clause-added : goal.refuse-requires-clause-added
 refuse-requires-clause-added c =
     let prefix = c.args.names.now.export_prefix in
     let marks = c.args.survey.now.marks in
-    c.as_slice.ensures ∙ c.in_ok-added.ensures ∙ ap (exports_by prefix marks) c.table_space-table.ensures ∙ exports_are prefix c.args.module.now c.args.moved.now marks c.requires.survey.marks
+    c.as_slice.ensures ∙ c.in_ok-added.ensures ∙ ap (exports_by prefix marks) c.requires.survey.table ∙ exports_are prefix c.args.module.now c.args.moved.now marks c.requires.survey.marks
 
 pub returns-clause-added : goal.returns-clause-added
 returns-clause-added c =
     let prefix = c.args.names.now.export_prefix in
     let marks = c.args.survey.now.marks in
-    c.in_ok-added.ensures ∙ ap (exports_by prefix marks) c.table_space-table.ensures ∙ exports_are prefix c.args.module.now c.args.moved.now marks c.requires.survey.marks
+    c.in_ok-added.ensures ∙ ap (exports_by prefix marks) c.requires.survey.table ∙ exports_are prefix c.args.module.now c.args.moved.now marks c.requires.survey.marks

@@ -11,7 +11,7 @@ use Rattle.split_slots.proofs.primary_module.part_module.Goals as goal
 
 pub part-requires-clause-few : goal.part-requires-clause-few
 part-requires-clause-few c =
-    let calls : Calls = record { types = c.as_slice-types.result; slots = c.deref.result; table = c.table_space-table.result; base = c.func_space.result; first = 0; end = 0 } in
+    let calls : Calls = record { types = c.as_slice-types.result; slots = c.deref.result; table = c.args.survey.now.table; base = c.func_space.result; first = 0; end = 0 } in
     few_slots c.args.tree.now c.args.moved.now c.requires.can calls (c.deref.ensures.value ∙ c.requires.survey.slots) c.requires.few c.func_space.ensures (c.as_slice-types.ensures ∙ c.requires.survey.types)
 
 pub part-requires-clause-params : goal.part-requires-clause-params
@@ -36,10 +36,10 @@ returns c =
     let m = c.args.tree.now in
     let moved = c.args.moved.now in
     let k = length (imported_funcs m.imports) in
-    let calls : Calls = record { types = c.as_slice-types.result; slots = c.deref.result; table = c.table_space-table.result; base = c.func_space.result; first = 0; end = 0 } in
+    let calls : Calls = record { types = c.as_slice-types.result; slots = c.deref.result; table = c.args.survey.now.table; base = c.func_space.result; first = 0; end = 0 } in
     let types = c.as_slice-types.ensures ∙ c.requires.survey.types in
     let slots = c.deref.ensures.value ∙ c.requires.survey.slots in
-    let is : PrimaryCalls m moved calls = record { types = types; slots = slots; table = c.table_space-table.ensures; none = refl } in
+    let is : PrimaryCalls m moved calls = record { types = types; slots = slots; table = c.requires.survey.table; none = refl } in
     let left = c.as_slice-left.result.now in
     let funcs =
     c.in_ok-own.ensures.left ∙ ap (λ n. kept (drop n left) (parted_funcs c.as_slice.result.now calls n m.funcs)) c.imported_funcs-first.ensures.value
@@ -48,8 +48,8 @@ returns c =
     record {
       tree =
           c.in_ok-add_parts.ensures
-          ∙ tree_is c.args.names.now.placeholder_namespace c.args.names.now.export_prefix m moved c.as_slice-types.result.now c.table_space-table.result (length c.as_slice-types.result.now) c.part.new.funcs c.args.added.now
-          types c.table_space-table.ensures (ap length types) c.requires.added funcs;
+          ∙ tree_is c.args.names.now.placeholder_namespace c.args.names.now.export_prefix m moved c.as_slice-types.result.now c.args.survey.now.table (length c.as_slice-types.result.now) c.part.new.funcs c.args.added.now
+          types c.requires.survey.table (ap length types) c.requires.added funcs;
       own =
           c.in_ok-own.ensures.own ∙ ap (λ n. own_funcs calls n m.funcs) c.imported_funcs-first.ensures.value
           ∙ moved_are m moved c.requires.can calls slots c.requires.ascend;
