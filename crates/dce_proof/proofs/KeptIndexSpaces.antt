@@ -4,7 +4,6 @@ use Rattle.base_lists.proofs.Common.{places_many}
 use Rattle.std.proofs.Common.{filter_map}
 use Rattle.wasm_tree_spec.specs.Prelude.{Space, Functions, Tables, Memories, Globals, Import, ImportDesc, Module, func_of, table_of, memory_of, global_of, imported_funcs, imported_tables, imported_memories, imported_globals, funcs_of, tables_of, memories_of, globals_of}
 use Rattle.wasm_tree.specs.declared.module.ImportDesc.TheVariants as im
-use Rattle.wasm_valid.specs.declared.kinds.ItemKind.{ItemKind}
 use Rattle.wasm_valid.specs.declared.kinds.ItemKind.TheVariants as kind
 use Rattle.wasm_valid.specs.Prelude.{elem_types, ImportHolds, ItemsHold}
 use Rattle.wasm_meaning.specs.Prelude.{has_kind, imports_of}

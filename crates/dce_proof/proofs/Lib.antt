@@ -13,6 +13,7 @@ pub mod CorrespondingWorlds
 pub mod NamedIndices
 pub mod SweptModuleLinking
 pub mod SweptModuleTraces
+mod SmallerViews
 pub mod WrongSweeps
 pub mod UnreachableFunctionMarks
 mod UnreachableFunctionRows

@@ -1,3 +1,4 @@
 pub mod ReachedMarks
 pub mod SweptModuleEquivalence
+pub mod SmallerViews
 pub mod UnreachableFunction

@@ -1,7 +1,8 @@
 // Laws: what closed marks leave of a valid module is observationally equivalent to the module,
-// seen through the exports that are kept; and so is a module without one function that nothing
-// else names.
+// seen through the exports that are kept; so is a module without one function that nothing else
+// names; and an environment that links the module links it with a view of only the kept exports.
 
+ghost use Rattle.dce_proof.specs.SmallerViews.{SmallerViewsLink};
 ghost use Rattle.dce_proof.specs.SweptModuleEquivalence.{SweptModuleEquivalent};
 ghost use Rattle.dce_proof.specs.UnreachableFunction.{UnreachableFunctionRemovalEquivalent};
 
@@ -29,6 +30,12 @@ pub fn swept_module_equivalent()
     declared_references_are_one_more_segment();
     corresponding_worlds_have_equal_traces();
 }
+
+/// An environment that links a module alone links it with a view of only the kept exports (`links`).
+/// So the equivalence of a sweep holds in each environment that links the module.
+pub fn smaller_views_link()
+    ensures links { SmallerViewsLink }
+{}
 
 /// A module is observationally equivalent, step by step, to itself without one function that
 /// nothing else of it names, in each environment that links it (WebAssembly Core 2.0, section

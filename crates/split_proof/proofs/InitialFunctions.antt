@@ -3,13 +3,13 @@ use Rattle.base_lists.proofs.Common.{◌≡◌, ◌∙◌, ap, ap₂, sym, subst
 use Rattle.base_lists.proofs.Common.{and_then_is, all_there_at, append_at_left, append_from, append_right, map_from, map_twice, slice_get_there, slice_index_is, all_there_back, there_among, place_is, no_place}
 use Rattle.wasm_tree_spec.specs.Prelude.{FuncType, Module, funcs_of, tables_of, type_of_func, Functions}
 use Rattle.wasm_tree.specs.declared.module.Func as tree
-use Rattle.wasm_meaning.specs.Prelude.{Code, Func, Inst, Own, Pair, Placeholder, Store, Environment, own_funcs, Added, added, next_inst, LoaderWorld, begun_of, begun_under, placeholders_from, placeholders_of, primary_added, store_under, supplied, Begun, all_there, alone, const_value, insts_from}
-use Rattle.wasm_meaning.specs.Prelude.{instantiate, joined_stores, new_func, own_count}
+use Rattle.wasm_meaning.specs.Prelude.{Code, Func, Inst, Own, Pair, Placeholder, Environment, own_funcs, Added, LoaderWorld, begun_under, placeholders_from, placeholders_of, primary_added, Begun, alone, insts_from}
+use Rattle.wasm_meaning.specs.Prelude.{instantiate, new_func, own_count}
 use Rattle.index_remap.specs.declared.remap.Remap.{Remap}
 use Rattle.run_simulation.specs.Prelude.{gets, slot_call, trampoline}
 use Rattle.index_remap.specs.Prelude.{renumbered_all}
 use Rattle.index_remap.specs.Renumbered as tree_with
-use Rattle.world_simulation.specs.Prelude.{one, AddsWith, IsInst}
+use Rattle.world_simulation.specs.Prelude.{one, IsInst}
 use Rattle.split_spec.specs.declared.names.SplitNames.{SplitNames}
 use Rattle.split_spec.specs.Prelude.{primary_func, params_of, place_among, slot_table, trampoline_body, type_index}
 use Rattle.split_proof.proofs.PrimarySpaces as spaces

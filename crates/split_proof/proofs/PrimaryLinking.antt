@@ -25,7 +25,7 @@ use Rattle.split_proof.proofs.PrimaryItems as items
 use Rattle.split_proof.proofs.PrimarySpaces as spaces
 use Rattle.split_proof.proofs.DescribedSpaces.{func_holds}
 use Rattle.wasm_valid.specs.Prelude.{ItemsHold}
-use Rattle.split_proof.specs.Addresses.{is_partner, split_pairing}
+use Rattle.split_proof.specs.Addresses.{split_pairing}
 use Rattle.split_proof.specs.SplitLaws.{CanBeSplit}
 use Rattle.split_proof.proofs.AddressPartners.{one_to_one, shares_own}
 use Rattle.split_proof.proofs.PlaceholderImports.{moved_typed}

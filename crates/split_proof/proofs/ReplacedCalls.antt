@@ -1,6 +1,6 @@
 -- A call of a moved function in the first run, which the second replaces by a call through the slot
 -- of the function or by a direct call of the loaded function.
-use Rattle.base_lists.proofs.Common.{◌≡◌, ◌∙◌, refl, sym, ap, ap₂, subst, ℕ, suc, ◌+◌, ◌≤◌, ◌&&◌, List, [], ◌∷◌, ◌++◌, Some, None, Bool, true, false, arith, slice_get, nat_eq, option_and_then, ℤ, and_parts, eqb-true, same_Some, and_then_is, map_from, unwrap_or_false_is, place_is, and_from}
+use Rattle.base_lists.proofs.Common.{◌≡◌, ◌∙◌, refl, sym, ap, ap₂, subst, ℕ, ◌+◌, ◌≤◌, ◌&&◌, List, [], ◌∷◌, ◌++◌, Some, Bool, true, false, arith, slice_get, nat_eq, option_and_then, ℤ, and_parts, eqb-true, same_Some, and_then_is, map_from, unwrap_or_false_is, place_is, and_from}
 use Rattle.base_lists.proofs.Common.{each_same_is, each_same_self}
 use Rattle.base_lists.specs.Options.{◌>>=◌}
 use Rattle.wasm_num.specs.Operations.{W32, wrapped}

@@ -1,7 +1,7 @@
 -- A function that a secondary module imports is left in the primary module: a moved one is imported
 -- only where a body names it by `ref.func`.
-use Rattle.base_lists.proofs.Common.{◌≡◌, ◌∙◌, ap, sym, refl, ℕ, ◌-◌, ◌<◌, Some, arith, length, List, [], ◌∷◌, ◌++◌, map, Bool, true, false, ◌&&◌, ◌||◌, not, nat_eq, ⊎_elim, slice_get, true≢false, cons_option, flat_map, list_any, flat_map-append, map-append, list_any_there, chosen_from, place_back}
-use Rattle.base_lists.proofs.Common.{numbers_is, map_from, cases_Bool, either_true, left_either, right_either, same_number, among_left, among_right, among_joined, ap₂, cond, Option, None, filter_map}
+use Rattle.base_lists.proofs.Common.{◌≡◌, ◌∙◌, ap, sym, refl, ℕ, ◌-◌, ◌<◌, Some, arith, length, List, [], ◌∷◌, ◌++◌, map, Bool, true, false, ◌&&◌, ◌||◌, not, nat_eq, ⊎_elim, slice_get, cons_option, flat_map, list_any, list_any_there, chosen_from, place_back}
+use Rattle.base_lists.proofs.Common.{numbers_is, map_from, cases_Bool, either_true, left_either, right_either, same_number, among_left, among_right, among_joined, ap₂, cond, None, filter_map}
 use Rattle.base_lists.specs.Members.{is_among}
 use Rattle.std.proofs.Common.{eq-eqb}
 use Rattle.base_lists.specs.Every.{Every}

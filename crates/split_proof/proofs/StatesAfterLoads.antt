@@ -2,7 +2,7 @@
 -- in their slots.
 use Rattle.base_lists.proofs.Common.{◌≡◌, ◌∙◌, refl, sym, ap, ap₂, subst, ℕ, suc, ◌+◌, ◌-◌, ◌<◌, ◌≤◌, ◌⊎◌, inl, inr, ⊎_elim, List, [], ◌∷◌, ◌++◌, length, Some, Bool, true, false, ◌&&◌, nat_eq, arith, slice_get, slice_set, decimal, list_any, and_parts, cases_lt, eqb-true, decimal_injective}
 use Rattle.base_lists.proofs.Common.{length-append, length-map, list_any-append, slice_get_within, same_Some, length-numbers, numbers_at, and_then_is, append_at_left, append_left, append_right, map_at, set_at, set_other, either_true}
-use Rattle.base_lists.specs.Options.{◌>>=◌, all_there}
+use Rattle.base_lists.specs.Options.{all_there}
 use Rattle.base_lists.specs.Places.{numbers}
 use Rattle.wasm_tree_spec.specs.Prelude.{Functions, FuncType, Module}
 use Rattle.wasm_meaning.specs.Prelude.{overwrite, Pair, FuncRef, RefVal, Inst, Store, Environment, own_count, added, supplied_by_primary, Run, Secondary, LoaderWorld, LoaderRun, secondary_of, store_loaded}
@@ -11,7 +11,7 @@ use Rattle.run_simulation.specs.WiderRelations.{CodeStaysRelated, StoresStayRela
 use Rattle.world_simulation.specs.StoreExtension.{StaysIn, AddedModulesExtend}
 use Rattle.world_simulation.proofs.AddedModuleExtension.{without_start}
 use Rattle.split_spec.specs.declared.names.SplitNames.{SplitNames}
-use Rattle.split_spec.specs.Prelude.{primary_with, HasSlots, secondary_with}
+use Rattle.split_spec.specs.Prelude.{HasSlots, secondary_with}
 use Rattle.split_proof.specs.SplitWorlds.{placeholders_for, split_world, type_in}
 use Rattle.split_proof.specs.Addresses.{defined_address, is_partner, may_stand, moved_addresses, slot_table_address, split_pairing}
 use Rattle.split_proof.specs.SplitInstantiation.{RunsRelated}

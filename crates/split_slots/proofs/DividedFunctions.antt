@@ -1,5 +1,5 @@
 -- The loop that divides the defined functions, one function at a time.
-use Rattle.base_lists.proofs.Common.{◌≡◌, ℕ, zero, suc, ◌+◌, ◌≤◌, arith, Bool, true, false, cond, List, [], ◌∷◌, ◌++◌, take, drop, set, Some, is_some, refl, ap, ◌∙◌, slice_get}
+use Rattle.base_lists.proofs.Common.{◌≡◌, ℕ, zero, suc, ◌+◌, arith, Bool, true, false, cond, List, [], ◌∷◌, ◌++◌, take, drop, set, Some, is_some, refl, ap, ◌∙◌, slice_get}
 use Rattle.wasm_tree_spec.specs.Prelude.{FuncType, Func}
 use Rattle.split_slots.specs.declared.call_replacement.Calls.{Calls}
 use Rattle.split_slots.specs.SlotLookup.{slot_at}

@@ -1,7 +1,7 @@
 -- Items of a module with other indices, where each index of a set names what its entry names:
 -- exports, starts, functions, constant expressions, and the modes of segments.
 use Rattle.base_lists.proofs.Common.{◌≡◌, arith, ℕ, Option, Some, refl, option_and_then, slice_get, slice_index, IsTrue, List}
-use Rattle.wasm_tree_spec.specs.Prelude.{Space, Types, Functions, ElementSegments, DataSegments, ConstExpr, ExportDesc, ElemMode, ElemSeg, DataMode, DataSeg, Instr, ListLayers}
+use Rattle.wasm_tree_spec.specs.Prelude.{Types, Functions, ElementSegments, DataSegments, ConstExpr, ExportDesc, ElemMode, ElemSeg, DataMode, DataSeg, Instr, ListLayers}
 use Rattle.wasm_tree.specs.declared.module.Func as tree
 use Rattle.wasm_num.specs.Operations.{W32}
 use Rattle.wasm_meaning.specs.Prelude.{Val, Inst, num_of, PlacedSegment, start_in, address_in}
