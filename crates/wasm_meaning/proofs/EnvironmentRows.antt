@@ -122,24 +122,40 @@ no_maximum_is_65537_pages = refl
 
 -- ---- tables of many entries ----
 
-nulls_are_references : (n : ℕ) → all_of (is_value [] (valt.Ref reft.Func)) (copies n Null) ≡ true
-nulls_are_references zero = refl
-nulls_are_references (suc n) = nulls_are_references n
+nulls_are_references : (env : Environment) (n : ℕ) → all_of (is_value env (valt.Ref reft.Func)) (copies n Null) ≡ true
+nulls_are_references env zero = refl
+nulls_are_references env (suc n) = nulls_are_references env n
 
 -- A number of nulls is a table if its limits allow this number and it is below 2 ^ 32.
-nulls_are_a_table : (limits : Limits) (n : ℕ) → is_within n limits ≡ true → nat_lt n (2 ^ 32) ≡ true → is_table [] (funcs_in limits (copies n Null)) ≡ true
-nulls_are_a_table limits n size few =
-    both (ap (λ k. is_within k limits) (copies_length n Null) ∙ size) (both (ap (λ k. nat_lt k (2 ^ 32)) (copies_length n Null) ∙ few) (nulls_are_references n))
+nulls_are_a_table : (env : Environment) (limits : Limits) (n : ℕ) → is_within n limits ≡ true → nat_lt n (2 ^ 32) ≡ true → is_table env (funcs_in limits (copies n Null)) ≡ true
+nulls_are_a_table env limits n size few =
+    both (ap (λ k. is_within k limits) (copies_length n Null) ∙ size) (both (ap (λ k. nat_lt k (2 ^ 32)) (copies_length n Null) ∙ few) (nulls_are_references env n))
 
 -- More entries are no table, whatever the limits.
 many_entries_are_none : (env : Environment) (t : OwnTable) (n : ℕ) → length t.entries ≡ n → nat_lt n (2 ^ 32) ≡ false → is_table env t ≡ false
 many_entries_are_none env t n size many = no (is_within (length t.entries) t.limits) (ap (λ x. x && all_of (is_value env (valt.Ref t.ty)) t.entries) (ap (λ k. nat_lt k (2 ^ 32)) size ∙ many))
 
-a_table_may_have_4294967295_entries : is_table [] (funcs_in (record { min = 0; max = None }) (copies 4294967295 Null)) ≡ true
-a_table_may_have_4294967295_entries = nulls_are_a_table (record { min = 0; max = None }) 4294967295 refl refl
+-- A table alone is an environment's exactly if it is a table.
+as_its_table : (t : OwnTable) (b : Bool) → is_table (offers_table t ∷ []) t ≡ b → is_environment (offers_table t ∷ []) ≡ b
+as_its_table t true e = ap (λ x. (x && true) && true) e
+as_its_table t false e = ap (λ x. (x && true) && true) e
 
-a_table_has_not_4294967296_entries : is_table [] (funcs_in (record { min = 0; max = None }) (copies 4294967296 Null)) ≡ false
-a_table_has_not_4294967296_entries = many_entries_are_none [] (funcs_in (record { min = 0; max = None }) (copies 4294967296 Null)) 4294967296 (copies_length 4294967296 Null) refl
+-- A table without a maximum that has so many nulls.
+abbrev has_nulls : ℕ → OwnTable
+has_nulls n = funcs_in (record { min = 0; max = None }) (copies n Null)
+
+a_table_may_have_4294967295_entries : is_table [] (has_nulls 4294967295) ≡ true
+a_table_may_have_4294967295_entries = nulls_are_a_table [] (record { min = 0; max = None }) 4294967295 refl refl
+
+an_environment_of_4294967295_entries : is_environment (offers_table (has_nulls 4294967295) ∷ []) ≡ true
+an_environment_of_4294967295_entries = as_its_table (has_nulls 4294967295) true (nulls_are_a_table (offers_table (has_nulls 4294967295) ∷ []) (record { min = 0; max = None }) 4294967295 refl refl)
+
+a_table_has_not_4294967296_entries : is_table [] (has_nulls 4294967296) ≡ false
+a_table_has_not_4294967296_entries = many_entries_are_none [] (has_nulls 4294967296) 4294967296 (copies_length 4294967296 Null) refl
+
+no_environment_of_4294967296_entries : is_environment (offers_table (has_nulls 4294967296) ∷ []) ≡ false
+no_environment_of_4294967296_entries =
+    as_its_table (has_nulls 4294967296) false (many_entries_are_none (offers_table (has_nulls 4294967296) ∷ []) (has_nulls 4294967296) 4294967296 (copies_length 4294967296 Null) refl)
 
 -- ---- what is none ----
 

@@ -4,7 +4,7 @@ use Rattle.wasm_num.specs.Operations.{wrapped, un_from, un_to, un_value, bin_fro
 use Rattle.wasm_tree.specs.declared.instr.Instr.{out-Instr}
 use Rattle.wasm_meaning.specs.Access.{load_to, load_width, loaded, store_from, stored}
 use Rattle.wasm_meaning.specs.Laws.{RunsAreDetermined, LoadedRunsAreDetermined, SequentialRunsAreDetermined, ShorterRunsArePrefixes, ShorterSequentialRunsArePrefixes, ShorterLoadedRunsArePrefixes}
-use Rattle.wasm_meaning.specs.Prelude.{World, LoaderWorld, Linked, Number, Move, Call, IsPrefix, events, events_sequential, events_loaded}
+use Rattle.wasm_meaning.specs.Prelude.{Environment, World, LoaderWorld, Linked, Number, Move, Call, IsPrefix, events, events_sequential, events_loaded}
 use Rattle.wasm_meaning.proofs.SmallRuns.{f, gives, num, plain, own, returns}
 use Rattle.wasm_meaning.proofs.LoaderRuns.{primary, moved, under}
 
@@ -29,15 +29,15 @@ what_was_loaded_stays : ShorterLoadedRunsArePrefixes → (k : ℕ) → IsPrefix 
 unfolding out-Instr denote.Hole.Carrier.out wrapped un_from un_to un_value bin_from bin_to bin_value load_to load_width loaded store_from stored
 what_was_loaded_stays prefixes k = prefixes (under primary moved) own calls_f 10 k
 
--- A world that equals the small one has its events.
-an_equal_world_gives_five : RunsAreDetermined → (w : World) → w ≡ five → events w [] calls_f 10 ≡ returns (Number 5 ∷ [])
+-- What equals the small world, its environment, its moves and its number of steps has its events.
+an_equal_run_gives_five : RunsAreDetermined → (w : World) (env : Environment) (moves : List Move) (n : ℕ) → w ≡ five → env ≡ [] → moves ≡ calls_f → n ≡ 10 → events w env moves n ≡ returns (Number 5 ∷ [])
 unfolding out-Instr denote.Hole.Carrier.out wrapped un_from un_to un_value bin_from bin_to bin_value load_to load_width loaded store_from stored
-an_equal_world_gives_five determined w is = determined w five [] [] calls_f calls_f 10 10 is refl refl refl
+an_equal_run_gives_five determined w env moves n = determined w five env [] moves calls_f n 10
 
-an_equal_world_gives_five_in_turn : SequentialRunsAreDetermined → (w : World) → w ≡ five → events_sequential w [] calls_f 10 ≡ returns (Number 5 ∷ [])
+an_equal_run_gives_five_in_turn : SequentialRunsAreDetermined → (w : World) (env : Environment) (moves : List Move) (n : ℕ) → w ≡ five → env ≡ [] → moves ≡ calls_f → n ≡ 10 → events_sequential w env moves n ≡ returns (Number 5 ∷ [])
 unfolding out-Instr denote.Hole.Carrier.out wrapped un_from un_to un_value bin_from bin_to bin_value load_to load_width loaded store_from stored
-an_equal_world_gives_five_in_turn determined w is = determined w five [] [] calls_f calls_f 10 10 is refl refl refl
+an_equal_run_gives_five_in_turn determined w env moves n = determined w five env [] moves calls_f n 10
 
-an_equal_loader_loads_the_same : LoadedRunsAreDetermined → (w : LoaderWorld) → w ≡ under primary moved → events_loaded w own calls_f 10 ≡ returns (Number 7 ∷ [])
+an_equal_loader_loads_the_same : LoadedRunsAreDetermined → (w : LoaderWorld) (env : Environment) (moves : List Move) (n : ℕ) → w ≡ under primary moved → env ≡ own → moves ≡ calls_f → n ≡ 10 → events_loaded w env moves n ≡ returns (Number 7 ∷ [])
 unfolding out-Instr denote.Hole.Carrier.out wrapped un_from un_to un_value bin_from bin_to bin_value load_to load_width loaded store_from stored
-an_equal_loader_loads_the_same determined w is = determined w (under primary moved) own own calls_f calls_f 10 10 is refl refl refl
+an_equal_loader_loads_the_same determined w env moves n = determined w (under primary moved) env own moves calls_f n 10
