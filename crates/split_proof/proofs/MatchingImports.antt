@@ -1,6 +1,7 @@
 -- Each import of a secondary module denotes an external value that matches it, in each store in
 -- which the instance of the primary module is well typed.
-use Rattle.base_lists.proofs.Common.{◌≡◌, ◌∙◌, ap, ap₂, sym, subst, refl, ℕ, zero, suc, List, [], ◌∷◌, ◌++◌, map, length, Option, Some, None, true, false, cond, ⊎_elim, slice_get, slice_index, unwrap_or, arith, option_map, and_from, slice_get_within, same_Some, chosen_from, numbers_index, option_map_is}
+use Rattle.base_lists.proofs.Common.{◌≡◌, ◌∙◌, ap, ap₂, sym, subst, refl, ℕ, zero, suc, List, [], ◌∷◌, ◌++◌, map, length, Option}
+use Rattle.base_lists.proofs.Common.{Some, None, true, false, cond, ⊎_elim, slice_get, slice_index, unwrap_or, arith, option_map, and_from, slice_get_within, same_Some, chosen_from, numbers_index, option_map_is}
 use Rattle.base_lists.proofs.Common.{append_at_left, append_from, map_from, push_last, Has}
 use Rattle.base_lists.proofs.Same.{text_self}
 use Rattle.base_lists.specs.Options.{◌>>=◌, all_there}
