@@ -1,4 +1,4 @@
-// What the scripts that run modules in this engine read of a module's bytes (Core 2.0, chapter 5), and what they change in them.
+// What the scripts that run modules in this engine read of a module's bytes (Core 2.0, chapter 5), what they change in them, and modules that they make.
 
 export const TYPES = { 0x7f: "i32", 0x7e: "i64", 0x70: "funcref", 0x6f: "externref" };
 const [CUSTOM, TYPE, IMPORT, FUNCTION, EXPORT, START, CODE] = [0, 1, 2, 3, 7, 8, 10];
@@ -114,7 +114,7 @@ export function signed(number) {
   return Buffer.from([...bytes, Number(left & 0x7fn)]);
 }
 
-const sized = (content) => Buffer.concat([unsigned(content.length), content]);
+export const sized = (content) => Buffer.concat([unsigned(content.length), content]);
 
 // The content of a section that is a vector, or of none, with items behind its own.
 function extended(content, items) {
@@ -134,4 +134,15 @@ export function withFunctions({ bytes, types, funcs }, added) {
   extend(CODE, added.map(({ body }) => sized(Buffer.concat([Buffer.from([0]), body, Buffer.from([0x0b])]))));
   const held = ORDER.filter((id) => contents.has(id));
   return Buffer.concat([bytes.subarray(0, 8), ...held.flatMap((id) => [Buffer.from([id]), sized(contents.get(id))])]);
+}
+
+// ---- making ----
+
+export const named = (text) => sized(Buffer.from(text));
+
+// A module of its sections, by their numbers: the items of a vector, or the content of what is no vector (the start, the count of data segments).
+export function moduleOf(contents) {
+  const held = ORDER.filter((id) => contents[id] && contents[id].length > 0);
+  const content = (items) => (Array.isArray(items) ? Buffer.concat([unsigned(items.length), ...items]) : items);
+  return Buffer.concat([Buffer.from("0061736d01000000", "hex"), ...held.flatMap((id) => [Buffer.from([id]), sized(content(contents[id]))])]);
 }

@@ -1,131 +1,217 @@
 #!/usr/bin/env node
-// Opens the page of examples/split in Chromium, without a window, and looks at what it shows.
+// Opens pages that load split modules in Chromium, without a window, and looks at what they show.
 //
-//     scripts/page_in_browser.mjs PROGRAM
+//     scripts/page_in_browser.mjs PROGRAM [SCREENSHOT.png]
 //
-// PROGRAM makes the two modules, as examples/split/README.md says, but into a folder of this script's own. The page must then show, in the window and
-// in the worker, what the module gives in this engine before it is split. Says `skipped` where there is no Chromium, and ends with 1 where the page
-// shows something else.
+// - The checks of loader/test_window.mjs: modules of more than 8 MB in a window, and calls that are suspended.
+// - The page of examples/split. PROGRAM makes its two modules, as examples/split/README.md says, but into a folder of this script's own. It must show, in
+//   the window and in the worker, what the module gives in this engine before it is split.
+// - The same page, bundled by esbuild: worker and modules stand beside the bundle.
+//
+// Says `skipped` where there is no Chromium, no PROGRAM or no esbuild. Ends with 1 where a page shows something else.
 import { execFileSync, spawn } from "node:child_process";
-import { mkdtempSync, readFileSync, rmSync } from "node:fs";
+import { copyFileSync, existsSync, mkdirSync, mkdtempSync, readFileSync, rmSync, statSync } from "node:fs";
 import { createServer } from "node:http";
 import { tmpdir } from "node:os";
 import { dirname, extname, join, normalize, resolve } from "node:path";
 import { fileURLToPath } from "node:url";
-import { calls } from "../examples/split/calls.mjs";
+import { FIRST, LATER, imports } from "../examples/split/calls.mjs";
+import { LARGE, LARGE_MOVED, suspendModules } from "../loader/test_pairs.mjs";
+import { pairOf } from "../loader/test_split.mjs";
+import { check, finish, report } from "./engine_checks.mjs";
 
 const TOP = dirname(dirname(fileURLToPath(import.meta.url)));
+const EXAMPLE = join(TOP, "examples/split");
 const SAMPLE = join(TOP, "tests/samples/rs_app.wasm");
 const KINDS = { ".html": "text/html", ".mjs": "text/javascript", ".wasm": "application/wasm" };
 const PATIENCE = 120000; // milliseconds
-const [program] = process.argv.slice(2);
+const [program, screenshot] = process.argv.slice(2);
 const work = mkdtempSync(join(tmpdir(), "page-"));
 
-// The browser's command, or null.
-function browser() {
-  return ["chromium", "chromium-browser", "google-chrome"].find((name) => {
-    try {
-      execFileSync(name, ["--version"], { stdio: "ignore" });
-      return true;
-    } catch {
-      return false;
-    }
-  }) ?? null;
+// Whether a tool is there.
+function has(name) {
+  try {
+    execFileSync(name, ["--version"], { stdio: "ignore" });
+    return true;
+  } catch {
+    return false;
+  }
 }
 
-function split() {
+// ---- what is opened ----
+
+function splitSample() {
   const outputs = ["primary", "secondary"].map((name) => `--${name}-output=${join(work, `${name}.wasm`)}`);
   execFileSync(resolve(program), ["split", SAMPLE, "--keep-funcs=reset,checked,shapes,expr", ...outputs]);
 }
 
-// A page around the page, which sends what stands in it: once both parts have as many lines as they are to have, or after a while.
-const AROUND = (lines) => `<!doctype html><iframe src="/examples/split/"></iframe><script>
-  const shown = (place) => document.querySelector("iframe").contentDocument?.getElementById(place)?.textContent.trim().split("\\n") ?? [];
-  const until = Date.now() + ${PATIENCE / 2};
-  const timer = setInterval(() => {
-    const all = { window: shown("window"), worker: shown("worker") };
-    if (Date.now() < until && Object.values(all).some(({ length }) => length < ${lines})) return;
-    clearInterval(timer);
-    fetch("/shown", { method: "POST", body: JSON.stringify(all) });
-  }, 50);
+function bundle() {
+  const folder = join(work, "bundle");
+  mkdirSync(folder);
+  const parts = ["page.mjs", "worker.mjs"].map((name) => join(EXAMPLE, name));
+  execFileSync("esbuild", [...parts, "--bundle", "--format=esm", "--out-extension:.js=.mjs", `--outdir=${folder}`, "--log-level=warning"]);
+  copyFileSync(join(EXAMPLE, "index.html"), join(folder, "index.html"));
+}
+
+function madeModules() {
+  const { primary, secondary } = pairOf(LARGE, LARGE_MOVED);
+  return { ...suspendModules(), "large.primary": primary, "large.0": secondary };
+}
+
+// A page that opens the others, one after the other, and sends what each shows: the rows of both parts, once there are as many as there are to be, or
+// after a while; and the checks that were made.
+const around = (pages, rows) => `<!doctype html><script type="module">
+  const pause = () => new Promise((done) => setTimeout(done, 50));
+  const shown = (frame, part) => [...frame.contentDocument?.querySelectorAll("#" + part + " tr") ?? []].map((row) => [...row.cells].map((cell) => cell.textContent));
+  async function opened(path) {
+    const frame = document.body.appendChild(document.createElement("iframe"));
+    frame.src = path;
+    const until = Date.now() + ${PATIENCE / 4};
+    for (;;) {
+      await pause();
+      const { results = null } = frame.contentWindow;
+      const parts = { window: shown(frame, "window"), worker: shown(frame, "worker") };
+      const isShown = path !== "/checks" && Object.values(parts).every(({ length }) => length >= ${rows});
+      if (Date.now() > until || results || isShown) return results ?? parts;
+    }
+  }
+  const all = {};
+  for (const path of ${JSON.stringify(pages)}) all[path] = await opened(path);
+  fetch("/shown", { method: "POST", body: JSON.stringify(all) });
 </script>`;
 
-// The repository's files, and the two modules where the page looks for them.
+const CHECKS = `<!doctype html><body><script type="module">
+  import { checkInWindow } from "/loader/test_window.mjs";
+  const made = [];
+  try {
+    await checkInWindow((...one) => made.push(JSON.parse(JSON.stringify(one))));
+  } catch (error) {
+    made.push(["the checks in a window", String(error.stack), "no error"]);
+  }
+  globalThis.results = made;
+</script>`;
+
+// ---- the server ----
+
+// The repository's files, the two modules where the page looks for them, and the bundle.
 function fileOf(path) {
-  if (path.startsWith("/examples/split/") && extname(path) === ".wasm") return join(work, path.split("/").at(-1));
+  const name = path.split("/").at(-1);
+  if (/^\/(bundle|examples\/split)\//.test(path) && extname(path) === ".wasm") return join(work, name);
+  if (path.startsWith("/bundle/")) return join(work, "bundle", name || "index.html");
   return join(TOP, path.endsWith("/") ? `${path}index.html` : path);
 }
 
-function serve(lines, told) {
+function serve(pages, rows, told) {
+  const made = madeModules();
+  const texts = { "/around": around(pages, rows), "/checks": CHECKS };
   return async (request, response) => {
-    const path = normalize(new URL(request.url, "http://localhost").pathname);
+    const { pathname, search } = new URL(request.url, "http://localhost");
+    const path = normalize(pathname);
+    const give = (bytes, kind) => response.writeHead(200, { "content-type": kind, "content-length": bytes.length }).end(bytes);
     if (path === "/shown") {
       told(JSON.parse((await request.toArray()).join("")));
       response.end();
-    } else if (path === "/around") {
-      response.writeHead(200, { "content-type": KINDS[".html"] }).end(AROUND(lines));
+    } else if (path in texts) {
+      give(Buffer.from(texts[path]), KINDS[".html"]);
+    } else if (path.startsWith("/made/")) {
+      const bytes = made[path.slice("/made/".length)];
+      if (bytes) give(bytes, search === "?plain" ? "text/plain" : KINDS[".wasm"]);
+      else response.writeHead(404).end();
     } else {
-      give(fileOf(path), response);
+      giveFile(fileOf(path), give, response);
     }
   };
 }
 
-function give(file, response) {
+function giveFile(file, give, response) {
   try {
-    const bytes = readFileSync(file);
-    response.writeHead(200, { "content-type": KINDS[extname(file)] ?? "text/plain" }).end(bytes);
+    give(readFileSync(file), KINDS[extname(file)] ?? "text/plain");
   } catch {
     response.writeHead(404).end();
   }
 }
 
-// What the page shows, by its part: nothing where the browser tells nothing in time.
-async function shownBy(name, lines) {
+// ---- the browser ----
+
+const FLAGS = ["--headless", "--no-sandbox", "--disable-gpu", `--user-data-dir=${join(work, "profile")}`];
+
+// What the pages show, by their addresses: nothing where the browser tells nothing in time.
+async function shownBy(browser, pages, rows) {
   let told = null;
   const shown = new Promise((done) => (told = done));
-  const server = createServer(serve(lines, told));
+  const server = createServer(serve(pages, rows, told));
   await new Promise((done) => server.listen(0, "127.0.0.1", done));
-  const address = `http://127.0.0.1:${server.address().port}/around`;
-  const child = spawn(name, ["--headless", "--no-sandbox", "--disable-gpu", `--user-data-dir=${join(work, "profile")}`, address], { stdio: "ignore" });
+  const address = `http://127.0.0.1:${server.address().port}`;
+  const child = spawn(browser, [...FLAGS, `${address}/around`], { stdio: "ignore" });
   const ended = new Promise((done) => child.on("close", done));
-  const timer = setTimeout(() => told({ window: [], worker: [] }), PATIENCE);
+  const timer = setTimeout(() => told({}), PATIENCE);
   try {
     return await shown;
   } finally {
     clearTimeout(timer);
     child.kill();
     await ended;
+    if (screenshot && pages.includes("/examples/split/")) await photograph(browser, `${address}/examples/split/`);
     server.close();
     server.closeAllConnections();
   }
 }
 
-// What the page must show: the secondary is there from the second call on.
+function photograph(browser, address) {
+  const words = [...FLAGS, `--screenshot=${resolve(screenshot)}`, "--window-size=1000,900", "--timeout=5000", address];
+  return new Promise((done) => spawn(browser, words, { stdio: "ignore" }).on("close", done));
+}
+
+// ---- what they must show ----
+
+// The calls of the page with what the module gives before it is split, and with what is then there.
+function rowsOf(calls, there) {
+  const whole = new WebAssembly.Instance(new WebAssembly.Module(readFileSync(SAMPLE)), imports);
+  return calls.map(([name, ...args]) => [`${name}(${args.join(", ")})`, `= ${whole.exports[name](...args)}`, `with the ${there}`]);
+}
+
 function expected() {
-  const whole = new WebAssembly.Instance(new WebAssembly.Module(readFileSync(SAMPLE)), { env: { log: () => {} } });
-  const lines = [];
-  calls({ exports: whole.exports, loaded: false }, (line) => lines.push(line));
-  return lines.map((line, at) => (at === 0 ? line : `${line}, with the secondary`));
+  const moduleRow = (name, note) => [`${name}.wasm`, `${statSync(join(work, `${name}.wasm`)).size.toLocaleString("en")} bytes`, note];
+  const [first, later] = [rowsOf(FIRST, "primary"), rowsOf(LATER, "primary and secondary")];
+  const primary = moduleRow("primary", "fetched and instantiated");
+  return {
+    window: [primary, ...first, moduleRow("secondary", "loaded beside, while the page went on"), ...later],
+    worker: [primary, ...first, moduleRow("secondary", "fetched in the call that needs it"), ...later],
+  };
 }
 
-async function check(name) {
-  split();
-  const wanted = expected();
-  const shown = await shownBy(name, wanted.length);
-  let wrong = 0;
-  for (const place of ["window", "worker"]) {
-    if (shown[place].join("; ") === wanted.join("; ")) continue;
-    console.log(`the page, ${place}: shows ${shown[place].join("; ")}, expected ${wanted.join("; ")}`);
-    wrong += 1;
+function checkPage(what, shown, wanted) {
+  for (const part of ["window", "worker"]) {
+    const rows = shown?.[part] ?? [];
+    check(`${what}, ${part}`, rows.map((row) => row.slice(0, 3)), wanted[part]);
+    check(`${what}, ${part}: times`, rows.filter((row) => !/^[0-9]+\.[0-9] ms$/.test(row[3])), []);
   }
-  console.log(`page in a browser: ${wrong} wrong`);
-  return wrong;
 }
 
+async function run(browser) {
+  const isBuilt = program !== undefined && existsSync(program);
+  const isBundled = isBuilt && has("esbuild");
+  if (isBuilt) splitSample();
+  else console.log("page in a browser: the page of examples/split: skipped: the program is not built");
+  if (isBundled) bundle();
+  else console.log(`page in a browser: the bundle: skipped: ${isBuilt ? "no esbuild" : "the program is not built"}`);
+  const pages = ["/checks", ...(isBuilt ? ["/examples/split/"] : []), ...(isBundled ? ["/bundle/"] : [])];
+  const wanted = isBuilt ? expected() : null;
+  const shown = await shownBy(browser, pages, wanted?.window.length ?? 0);
+  const made = Array.isArray(shown["/checks"]) ? shown["/checks"] : [];
+  if (made.length === 0) report("the checks in a window: none was made");
+  for (const one of made) check(...one);
+  if (isBuilt) checkPage("the page", shown["/examples/split/"], wanted);
+  if (isBundled) checkPage("the bundle", shown["/bundle/"], wanted);
+  return made.length;
+}
+
+const browser = ["chromium", "chromium-browser", "google-chrome"].find(has);
+let made = 0;
 try {
-  const name = browser();
-  if (name === null) console.log("page in a browser: skipped: no chromium");
-  else process.exitCode = (await check(name)) === 0 ? 0 : 1;
+  if (browser) made = await run(browser);
+  else console.log("page in a browser: skipped: no chromium");
 } finally {
   rmSync(work, { recursive: true, force: true, maxRetries: 5 });
 }
+if (browser) finish(`page in a browser: ${made} checks in a window`);

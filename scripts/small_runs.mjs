@@ -4,7 +4,7 @@
 // events that the theorem states. Of a module under a loader it is the loader, too; split modules are loaded by the loader that users take (loader/).
 // A run that can't be shown here is named with its reason: a growth that is denied, a move while a growth waits, a run that doesn't end in its steps or
 // waits for a move, imports in a circle, what several parts do at once or in another order, two memories, a memory of the embedder's own that has bytes,
-// a call of a function that isn't known here, a move that isn't, a load while the primary starts, several secondary modules. A run is shown in part where
+// a call of a function that isn't known here, a move that isn't, a load while the primary starts. A run is shown in part where
 // a move isn't taken, which is then left out, or a growth is granted, whose request no engine tells. Ends with 1 where the engine shows something else, or
 // nothing of a file.
 //
@@ -593,14 +593,20 @@ class SplitLoader extends Embedder {
   constructor({ primary, secondaries, view }, environment, moves, expected) {
     const entities = view.map(({ pair: [name, what] }) => ({ pair: [name, { part: 0n, what }] }));
     super({ parts: [{ name: made("None"), module: primary }], view: entities }, environment, moves, expected);
-    if (secondaries.length > 1) throw new NotShown("several secondary modules");
-    [this.secondary] = secondaries;
+    this.secondaries = secondaries;
   }
 
   instance({ module }) {
-    const placeholders = this.secondary.placeholders.map(({ pair: [{ pair }] }) => text(pair));
+    const placeholders = this.secondaries.flatMap((one) => one.placeholders.map(({ pair: [{ pair }] }) => text(pair)));
     const others = module.imports.filter((i) => !placeholders.includes(text([i.module, i.field])));
-    return new SplitInstance(moduleBytes(module), () => moduleBytes(this.secondary.module), this.objects({ ...module, imports: others }));
+    return new SplitInstance(moduleBytes(module), this.given(), this.objects({ ...module, imports: others }));
+  }
+
+  // the secondary of a pair, or a map from placeholder modules
+  given() {
+    const give = ({ module }) => () => moduleBytes(module);
+    if (this.secondaries.length === 1) return give(this.secondaries[0]);
+    return Object.fromEntries(this.secondaries.map((one) => [string(one.placeholders[0].pair[0].pair[0]), give(one)]));
   }
 
   isReady() {

@@ -1,10 +1,17 @@
-// What the page calls, the same in the window and in the worker.
+// What the page does, the same in the window and in the worker: which calls it makes, and what it shows of them.
 
-/** Calls functions of an instance, and shows each call with its result and whether the secondary is there by then. */
-export function calls(instance, show) {
-  const { checked, words, expr } = instance.exports;
-  const line = (call, result) => show(`${call} = ${result}${instance.loaded ? ", with the secondary" : ""}`);
-  line("checked(84, 2)", checked(84, 2));
-  line("words(10)", words(10));
-  line("expr(4)", expr(4));
+/** What the module that was split imports. */
+export const imports = { env: { log: () => {} } };
+
+/** Calls that need the primary alone, and calls of functions that moved. */
+export const FIRST = [["checked", 84, 2]];
+export const LATER = [["words", 10], ["expr", 4]];
+
+/** Makes calls, and shows each with its result, with which modules were there when it came back, and how long it took. */
+export function makeCalls(split, calls, show) {
+  for (const [name, ...args] of calls) {
+    const began = performance.now();
+    const result = split.exports[name](...args);
+    show({ what: `${name}(${args.join(", ")})`, gives: String(result), there: split.loaded ? "primary and secondary" : "primary", ms: performance.now() - began });
+  }
 }
