@@ -127,12 +127,6 @@ both_of false false e = cc
 both_of true true e = cc
 both_of true false e = cc
 
-neither : (a b : Bool) → (a || b) ≡ false → (a ≡ false) × (b ≡ false)
-neither false false e = (refl, refl)
-neither false true e = cc
-neither true false e = cc
-neither true true e = cc
-
 sound_at : (P : Module → Type 0) → ((p : Part) → IsSound p → P p.«module») → (parts : List Part) → Every IsSound parts → (n : ℕ) (m : Module) → module_at parts n ≡ Some m → P m
 sound_at P f [] h n m e = absurd (cc)
 sound_at P f (p ∷ parts) h zero m e = let same : p.«module» ≡ m = cc in subst P same (f p h.0)
@@ -526,17 +520,26 @@ outputs_apart words (Sample sample) e contents = by sample.output
 -- ---- what is written ----
 
 -- The file that was just written holds its bytes, and a file of another name is unchanged.
-written_there : (files : FileContents) (name bytes : Text) → get (insert files name bytes) name ≡ Some bytes
+pub written_there : (files : FileContents) (name bytes : Text) → get (insert files name bytes) name ≡ Some bytes
 written_there files name bytes = get-insert nat_list_cmp_total files name bytes name ∙ ap (λ b. cond b (Some bytes) (get files name)) ((eq_by_cmp_equiv nat_list_cmp_total).refl name)
 
-written_elsewhere : (files : FileContents) (name other bytes : Text) → bytes_eq name other ≡ false → get (insert files other bytes) name ≡ get files name
+pub written_elsewhere : (files : FileContents) (name other bytes : Text) → bytes_eq name other ≡ false → get (insert files other bytes) name ≡ get files name
 written_elsewhere files name other bytes e =
     get-insert nat_list_cmp_total files other bytes name ∙ ap (λ b. cond b (Some bytes) (get files name)) (is_eq-slice_cmp name other ∙ e)
+
+unlike_first : (name other : Text) (names : List Text) → list_any (bytes_eq name) (other ∷ names) ≡ false → (bytes_eq name other ≡ false) × (list_any (bytes_eq name) names ≡ false)
+unlike_first name other names e = by (bytes_eq name other) (list_any (bytes_eq name) names) e
+  where
+    by : (a b : Bool) → (a || b) ≡ false → (a ≡ false) × (b ≡ false)
+    by false false e = (refl, refl)
+    by false true e = cc
+    by true false e = cc
+    by true true e = cc
 
 others_stay : (name : Text) (outputs : List Output) (files : FileContents) → list_any (bytes_eq name) (map (λ (o : Output). o.name) outputs) ≡ false → get (made (map spelled_output outputs) files) name ≡ get files name
 others_stay name [] files e = refl
 others_stay name (o ∷ outputs) files e =
-    let unlike = neither (bytes_eq name o.name) (list_any (bytes_eq name) (map (λ (o : Output). o.name) outputs)) e in
+    let unlike = unlike_first name o.name (map (λ (o : Output). o.name) outputs) e in
     others_stay name outputs (insert files o.name (plain o.tree ++ o.custom)) unlike.1 ∙ written_elsewhere files name o.name (plain o.tree ++ o.custom) unlike.0
 
 -- A sound output within the limit is spelled by its canonical encoding.

@@ -20,3 +20,4 @@ mod EvaluatedMemories
 mod TreesHold
 mod Behaving
 mod EachHeadline
+mod WrittenOut
