@@ -4,7 +4,8 @@
     python3 scripts/claims.py [TOP OF THE REPOSITORY]
 
 A contract is cited as `crate::function` or `crate::Type::function`, and its clauses as `: `one`, `two`` behind it. `clause.field` cites a
-field of the record that the clause promises; whether it is one of that record is not checked, only that a record of the crate has it. In all
+field of the record that the clause promises; whether it is one of that record is not checked, only that a record of the crate, or of CRATE_spec,
+has it. In all
 pages
 
 - each such function stands in src/ of the crate as a public function, at the top or in a block of that type or trait, with each clause that is
@@ -64,7 +65,8 @@ def is_clause(contract, clause, crate):
     name, _, field = clause.partition(".")
     if not re.search(rf"\bensures\*? {name} \{{", contract):
         return False
-    return not field or re.search(rf"^ +pub {field} :", text_below(f"{crate}/specs", ".antt"), re.M) is not None
+    specs = "\n".join(text_below(f"{folder}/specs", ".antt") for folder in (crate, f"{crate}_spec"))
+    return not field or re.search(rf"^ +pub {field} :", specs, re.M) is not None
 
 
 def faults_of_contract(top, crate, path, clauses):

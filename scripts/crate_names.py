@@ -67,6 +67,7 @@ ONE_JOB = {
     "tool_io": "files and streams",
     "tools_cli_words": "reads command lines",
     "tools_cli_eval": "evaluates the listed constructors",
+    "tools_cli_decide": "what a command line asks for, and what a task decides",
     "tools_cli": "the commands",
     "binkit": "main",
 }

@@ -1,18 +1,20 @@
 -- The job of a task, from the inputs of the task.
+use Rattle.tools_cli_spec.specs.CommandLine.{many_of}
 use Rattle.base_lists.proofs.Common.{◌≡◌, ◌∙◌, sym, refl, ap, subst, Bool, true, false, cond, map, ℕ, zero, suc, ◌≤◌, List, [], ◌∷◌, ◌++◌, take, drop, length, arith, Contains, list_all}
 use Rattle.std.proofs.Common.{length-append}
-use Rattle.tools_cli.specs.Prelude.{Text, MetadceTask, SplitTask, CtorEvalTask, SampleTask, Task, Merge, Metadce, Split, CtorEval, Sample, many_of, modules_of, texts_of, inputs_of, Job, Usage, Refused, Done, Output, Decision, Refuses, Makes, not_linked, not_joined, merged, SweepsByGraph, no_graph}
-use Rattle.tools_cli.specs.Prelude.{not_swept, swept_by_marks, Splits, no_plan, not_parted, parted, Evaluates, not_evaluated, evaluated, Samples, not_merged, sampled, Decides, is_within, spelled_output, job_of, AllLoad, OneFails, module_files, contents_of, InputsJob, not_loaded, decided, NamedFile}
-use Rattle.tools_cli.specs.Prelude.{written_names, total, PrintsAsAllowed, input_entry, input_entries, input_texts}
-use Rattle.tools_cli.specs.CommandLine.{outputs_of}
-use Rattle.tools_cli.specs.Job.{Missing}
+use Rattle.tools_cli_spec.specs.Prelude.{Text, MetadceTask, SplitTask, CtorEvalTask, SampleTask, Task, Merge, Metadce, Split, CtorEval, Sample, modules_of, texts_of, inputs_of, Job, Usage, Refused, Done, Output, Decision, Refuses, Makes, not_linked, not_joined, merged, SweepsByGraph}
+use Rattle.tools_cli_spec.specs.Prelude.{no_graph, not_swept, swept_by_marks, Splits, no_plan, not_parted, parted, Evaluates, not_evaluated, evaluated, Samples, not_merged, sampled, Decides, is_within, spelled_output, job_of, AllLoad, OneFails, module_files, contents_of, InputsJob}
+use Rattle.tools_cli_spec.specs.Prelude.{not_loaded, decided, NamedFile, written_names}
+use Rattle.tools_cli_decide.specs.Prelude.{total, input_entry, input_entries, input_texts}
+use Rattle.tools_cli.specs.Causes.{PrintsAsAllowed}
+use Rattle.tools_cli_spec.specs.CommandLine.{outputs_of}
+use Rattle.tools_cli_spec.specs.Job.{Missing}
+use Rattle.base_lists.proofs.Common.{Option, Some, None, option_map, cons_option}
 use Rattle.wasm_tree_spec.specs.Prelude.{Module}
-use Rattle.tools_cli.specs.declared.gather.Input.{Input}
-use Rattle.tools_cli.specs.declared.decide.Decision as code
+use Rattle.tools_cli_decide.specs.declared.input.Input.{Input}
 use Rattle.tools_cli.proofs.MetadceDecided.{of_one}
 use Rattle.tools_cli.proofs.SplitDecided.{of_one as of_one_split}
 use Rattle.tools_cli.proofs.CtorEvalDecided.{of_one as of_one_eval}
-use Rattle.tools_cli.proofs.SampleDecided.{of_none, output_names_are}
 
 -- ---- the inputs, as modules and other texts ----
 
@@ -46,12 +48,12 @@ pub inputs_there : (t : Task) (xs : List Input) → map (λ (e : NamedFile). e.0
 inputs_there t xs e = sym (length_names xs) ∙ ap length e
 
 -- No task allows modules with several memories.
-pub one_memory : (t : Task) → many_of t ≡ false
-one_memory (Merge merge) = refl
-one_memory (Metadce metadce) = refl
-one_memory (Split split) = refl
-one_memory (CtorEval eval) = refl
-one_memory (Sample sample) = refl
+no_several : (t : Task) → false ≡ many_of t
+no_several (Merge merge) = refl
+no_several (Metadce metadce) = refl
+no_several (Split split) = refl
+no_several (CtorEval eval) = refl
+no_several (Sample sample) = refl
 
 -- ---- the job ----
 
@@ -61,13 +63,13 @@ job_made t inputs n files trees contents decision job count first all loads deci
     let P : List NamedFile → Type 0 = λ l. AllLoad false l trees in
     let Q : Bool → Type 0 = λ b. AllLoad b (module_files t inputs) trees in
     let R : List Text → Type 0 = λ l. Decides t trees l decision in
-    subst (InputsJob t inputs) is (decided trees decision (subst Q (sym (one_memory t)) (subst P (first ∙ ap (λ k. take k inputs) count) loads)) (subst R all decides))
+    subst (InputsJob t inputs) is (decided trees decision (subst Q (no_several t) (subst P (first ∙ ap (λ k. take k inputs) count) loads)) (subst R all decides))
 
 pub job_not_loaded : (t : Task) (inputs : List NamedFile) (n : ℕ) (files : List NamedFile) → n ≡ length (modules_of t) → files ≡ take n inputs → (text : Text) → OneFails false files text → InputsJob t inputs (Refused text)
 job_not_loaded t inputs n files count first text fails =
     let P : List NamedFile → Type 0 = λ l. OneFails false l text in
     let Q : Bool → Type 0 = λ b. OneFails b (module_files t inputs) text in
-    not_loaded text (subst Q (sym (one_memory t)) (subst P (first ∙ ap (λ k. take k inputs) count) fails))
+    not_loaded text (subst Q (no_several t) (subst P (first ∙ ap (λ k. take k inputs) count) fails))
 
 -- ---- what a job writes and prints ----
 
@@ -103,9 +105,20 @@ eval_allowed : (eval : CtorEvalTask) (tree : Module) (texts : List Text) (decisi
 eval_allowed eval tree texts decision (not_evaluated fault says found told) = tt
 eval_allowed eval tree texts decision (evaluated none) = ((λ name h. h), λ e. absurd (cc))
 
+-- A name of the outputs of a sample is the name that it gives.
+named_by : (o : Option Text) (tree : Module) (name : Text) → Contains (map (λ (x : Output). x.name) (cons_option (option_map (λ name. record { name = name; tree = tree; custom = [] }) o) [])) name → Contains (cons_option o []) name
+named_by (Some given) tree name h = h
+named_by None tree name h = h
+
 sample_allowed : (sample : SampleTask) (texts : List Text) (decision : Decision) → Samples sample decision → DecisionIsAllowed (Sample sample) texts decision
 sample_allowed sample texts decision (not_merged text h) = tt
-sample_allowed sample texts decision (sampled tree is) = ((λ name h. let P : List Text → Type 0 = λ names. Contains names name in subst P (output_names_are sample.output tree) h), λ e. absurd (cc))
+sample_allowed sample texts decision (sampled tree is) = ((λ name h. named_by sample.output tree name h), λ e. absurd (cc))
+
+-- A sample decides over no module and no file.
+of_no_file : (sample : SampleTask) (trees : List Module) (contents : List Text) (decision : Decision) → Decides (Sample sample) trees contents decision → Samples sample decision
+of_no_file sample [] [] decision h = h
+of_no_file sample [] (text ∷ contents) decision h = absurd h
+of_no_file sample (tree ∷ trees) contents decision h = absurd h
 
 decision_allowed : (t : Task) (trees : List Module) (contents texts : List Text) (decision : Decision) → Decides t trees contents decision → DecisionIsAllowed t texts decision
 decision_allowed (Merge merge) trees contents texts decision (not_linked fault text found says) = tt
@@ -114,7 +127,7 @@ decision_allowed (Merge merge) trees contents texts decision (merged tree is) = 
 decision_allowed (Metadce metadce) trees contents texts decision h = let one = of_one metadce trees contents decision h in swept_allowed metadce one.0 one.2 texts decision one.5
 decision_allowed (Split split) trees contents texts decision h = let one = of_one_split split trees contents decision h in split_allowed split one.0 one.1 texts decision one.4
 decision_allowed (CtorEval eval) trees contents texts decision h = let one = of_one_eval eval trees contents decision h in eval_allowed eval one.0 texts decision one.4
-decision_allowed (Sample sample) trees contents texts decision h = let none = of_none sample trees contents decision h in sample_allowed sample texts decision none.2
+decision_allowed (Sample sample) trees contents texts decision h = sample_allowed sample texts decision (of_no_file sample trees contents decision h)
 
 same_names : (outputs : List Output) → map (λ (o : Output). o.name) outputs ≡ written_names (map spelled_output outputs)
 same_names [] = refl

@@ -2,9 +2,12 @@
 use Rattle.base_lists.proofs.Common.{◌≡◌, ◌∙◌, sym, refl, ap, Bool, true, false, not, ltb, ◌&&◌, map, ℕ, suc, ◌+◌, ◌<◌, ◌≤◌, List, [], ◌∷◌, ◌++◌, append-nil, add-one, drop, drop-cons, length, get_or, arith, list_all, drop_all, nat_tests}
 use Rattle.wasm_write_spec.specs.Plain.{plain}
 use Rattle.wasm_tree_spec.specs.Prelude.{Module}
-use Rattle.tools_cli.specs.Prelude.{NamedFile, is_within, spelled_output, most_output, output_values, write_entries}
-use Rattle.tools_cli.specs.Command.{output_value, write_entry}
-use Rattle.tools_cli.specs.declared.decide.Output.{Output}
+use Rattle.tools_cli_spec.specs.Prelude.{NamedFile, is_within, spelled_output, most_output}
+use Rattle.tools_cli_decide.specs.Prelude.{output_values}
+use Rattle.tools_cli.specs.Writes.{write_entries}
+use Rattle.tools_cli_decide.specs.Command.{output_value}
+use Rattle.tools_cli.specs.Writes.{write_entry}
+use Rattle.tools_cli_decide.specs.declared.output.Output.{Output}
 use Rattle.tools_cli.specs.declared.perform.Write.{Write}
 
 pub fits_is : (tree : Module) → length (plain tree) ≤ most_output → not (ltb most_output (length (plain tree))) ≡ true

@@ -6,10 +6,15 @@ use Rattle.std.proofs.lemmas.List.{length-take}
 use Rattle.tools_cli.proofs.Pieces.{append-nil}
 use Rattle.std.proofs.Math.Seq.{drop-cons}
 use Rattle.tool_io.specs.FilesAndSinks.{FileContents, first_bytes}
-use Rattle.tools_cli.specs.Prelude.{Text, Gathered, Whole, Lacks, TooLong, add_first, add_file, gathered, over_limit, total, names_of, input_entry, input_entries, NamedFile}
+use Rattle.tools_cli_spec.specs.Prelude.{Text, Gathered, Whole, Lacks, TooLong, add_first, add_file, gathered, over_limit, NamedFile}
+use Rattle.tools_cli_decide.specs.Prelude.{total, names_of, input_entry, input_entries}
 use Rattle.wasm_tree_spec.specs.Prelude.{InputBytes}
-use Rattle.tools_cli.specs.Causes.{turns, turns_after}
-use Rattle.tools_cli.specs.declared.gather.Input.{Input}
+use Rattle.tools_cli_spec.specs.Turns.{turns, turns_after}
+use Rattle.tools_cli_decide.specs.declared.input.Input.{Input}
+
+-- The name at a place past the end of a list.
+unfoldable pub no_word : Bor Text
+no_word = record { ref_ptr = (0, 0); now = [] }
 
 -- The files that were read before, followed by the rest.
 abbrev pub add_all : List NamedFile → Gathered → Gathered

@@ -1,30 +1,14 @@
-pub mod Changes
-pub mod Pieces
-pub mod Gathering
-pub mod Performing
-pub mod Running
-pub mod Loading
-pub mod MergeDecided
-pub mod UnusedNames
-pub mod MetadceDecided
-pub mod SplitDecided
-pub mod CtorEvalDecided
-pub mod ReadBytes
-pub mod Deciding
-pub mod Encoding
-pub mod Determined
-pub mod FirstItems
-pub mod Existing
-pub mod Accepted
-pub mod WordTexts
-pub mod Faithful
-pub mod Lines
-pub mod Apart
-pub mod Limits
-pub mod FewInAll
-pub mod NumberTexts
-pub mod SampleRanges
-pub mod SampleDecided
-pub mod SampleText
-mod FaithfulRows
-mod MadeRows
+mod Changes
+mod Pieces
+mod ReadBytes
+mod Gathering
+mod Performing
+mod Limits
+mod Loading
+mod MetadceDecided
+mod SplitDecided
+mod CtorEvalDecided
+mod Deciding
+mod FaithfulEnds
+mod Running
+mod Encoding

@@ -5,10 +5,11 @@ use Rattle.wasm_tree_spec.specs.Prelude.{Imports, limit, Func, Module}
 use Rattle.wasm_tree.specs.declared.which.Which.TheVariants.{Types, Functions, Tables, Memories, Globals, ElementSegments, DataSegments}
 use Rattle.wasm_read_spec.specs.declared.parts.Parts.{Parts}
 use Rattle.base_lists.specs.Every.{Every}
-use Rattle.wasm_read_spec.specs.Prelude.{Never, MadeFrom, When, Any, Limited, WhenSmall, nothing, with_types, with_imports, with_func_types, with_tables, with_mems, with_globals, with_exports, with_start, with_elems, with_codes, with_datas, with_count, SpellsCustom, SectionIsSmall, SectionContents}
-use Rattle.wasm_read_spec.specs.Prelude.{typed, tree_of}
+use Rattle.wasm_read_spec.specs.Prelude.{Never, MadeFrom, When, Any, Limited, WhenSmall, nothing, with_types, with_imports, with_func_types, with_tables, with_mems, with_globals, with_exports, with_start, with_elems, with_codes, with_datas, with_count, SpellsCustom, SectionIsSmall}
+use Rattle.wasm_read_spec.specs.Prelude.{SectionContents, typed, tree_of}
 use Rattle.wasm_read_spec.specs.Files.{section_form, small_form}
-use Rattle.tools_cli.specs.Prelude.{Text, IsReadAs, IsWithinLimits}
+use Rattle.tools_cli_spec.specs.Prelude.{Text, IsReadAs}
+use Rattle.tools_cli_decide.specs.Prelude.{IsWithinLimits}
 
 -- No list of a section is above its limit.
 record FewParts (p : Parts) : Type 0 where

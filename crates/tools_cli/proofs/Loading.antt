@@ -1,27 +1,15 @@
 -- Files that are loaded one after another.
 use Rattle.base_lists.proofs.Common.{◌≡◌, ◌∙◌, sym, refl, ap, subst, ◌⊎◌, inl, inr, Bool, false, Some, Result, Ok, Err, ℕ, zero, suc, ◌+◌, ◌<◌, ◌≤◌, ◌^◌, List, [], ◌∷◌, ◌++◌, append-nil, add-one, drop, drop-cons, length, get_or, arith, drop_all}
 use Rattle.base_lists.specs.Every.{Every}
-use Rattle.tools_cli.specs.Prelude.{Text, LoadsFile, faulty, invalid, loaded, IsReadAs, IsAccepted, AllLoad, OneFails, most_input, NamedFile, fault_text, total, StopsWith, IsWithinLimits, refusal_text, input_entry, input_entries}
+use Rattle.tools_cli_spec.specs.Prelude.{Text, LoadsFile, faulty, invalid, loaded, IsReadAs, IsAccepted, AllLoad, OneFails, most_input, NamedFile, fault_text}
+use Rattle.tools_cli_decide.specs.Prelude.{total, IsWithinLimits, input_entry, input_entries}
 use Rattle.wasm_tree_spec.specs.Prelude.{Module}
 use Rattle.wasm_read_spec.specs.declared.fault.ReadFault.{ReadFault}
 use Rattle.wasm_read_spec.specs.declared.fault.ReadFault.TheVariants.{NoMemory}
 use Rattle.wasm_read_spec.specs.Prelude.{read_fault}
-use Rattle.tools_cli.specs.declared.stop.Stop.{Stop}
-use Rattle.tools_cli.specs.declared.stop.Stop.TheVariants as stop
 use Rattle.tools_cli.specs.Causes.{InvalidText}
-use Rattle.tools_cli.specs.declared.gather.Input.{Input}
+use Rattle.tools_cli_decide.specs.declared.input.Input.{Input}
 use Rattle.tools_cli.proofs.Limits.{read_within}
-
--- ---- stops ----
-
--- A property of the text of a stop implies a weaker one.
-pub stops_weaker : (P Q : Text → Type 0) → ((text : Text) → P text → Q text) → (s : Stop) → StopsWith P s → StopsWith Q s
-stops_weaker P Q f (stop.Refused refusal) h = f (refusal_text refusal) h
-stops_weaker P Q f stop.NoMemory h = tt
-stops_weaker P Q f (stop.Usage line) h = absurd h
-stops_weaker P Q f (stop.CannotRead r) h = absurd h
-stops_weaker P Q f (stop.CannotWrite r) h = absurd h
-stops_weaker P Q f stop.CannotPrint h = absurd h
 
 -- ---- one file more ----
 
@@ -69,12 +57,6 @@ inputs_once [] = refl
 inputs_once (x ∷ xs) = ap suc (inputs_once xs)
 
 -- ---- what is known of modules that are loaded ----
-
-pub as_many : (many : Bool) (files : List NamedFile) (trees : List Module) → AllLoad many files trees → length trees ≡ length files
-as_many many [] [] h = refl
-as_many many [] (tree ∷ trees) h = absurd h
-as_many many (file ∷ files) [] h = absurd h
-as_many many (file ∷ files) (tree ∷ trees) h = ap suc (as_many many files trees h.1)
 
 loaded_within : (many : Bool) (file bytes : Text) (r : Result Module Text) (tree : Module) → r ≡ Ok tree → LoadsFile many file bytes r → IsWithinLimits tree
 loaded_within many file bytes r tree e (loaded other h accepted) = let same : other ≡ tree = cc in subst IsWithinLimits same (read_within many bytes other h)

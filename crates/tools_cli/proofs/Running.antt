@@ -2,27 +2,32 @@
 use Rattle.base_lists.proofs.Common.{◌≡◌, ◌∙◌, arith, sym, refl, ap, subst, ℕ, ◌≤◌, List, [], ◌∷◌, ◌++◌, length, map, drop, Option, Some, None, IfSome, Contains, OnOk, Result, Ok, Err, string_bytes, inl, inr, ◌⊎◌, get, map_twice}
 use Rattle.tool_io.specs.FilesAndSinks.{FileContents, Becomes, AppendsPrefix, Rose}
 use Rattle.tools_cli.proofs.Changes.{becomes_itself, becomes_weaker, becomes_same}
-use Rattle.tools_cli.specs.Prelude.{Text, Task, task_of, modules_of, texts_of, inputs_of, NamedFile, made, AreWrittenInPart, written_names, Job, Usage, Refused, Done, Whole, TooLong, gathered, most_input, InputsJob, TaskJob, refused_before, not_begun, too_long, all_read, HasJob, no_task, asked}
-use Rattle.tools_cli.specs.Prelude.{refusal_text, StopsWith, PrintsAsAllowed, HostState, over_limit}
-use Rattle.tools_cli.specs.CommandLine.{usage_line}
-use Rattle.tools_cli.specs.Stop.{IsLine, usage, fault_line, invalid_line, parts_line, link_line, join_line, graph_line, plan_line, split_line, eval_line, output_line, cannot_read_line, cannot_write_line, cannot_print_line, no_memory_line, no_memory, stop_line, line_of, Says, Reports}
-use Rattle.tools_cli.specs.Causes.{StopsGathering, StopsPreparing, StopsFinishing, MayHold, AreOutputs, AllWritten, PrintsAfter}
-use Rattle.tools_cli.specs.Run.{IsUsage, PrintsNothing, JobIsDone, StopsWork, ChangesByTheJob, PrintsForTheJob, EndsDone, EndsRefused, Gains, IsSame, HasOutsideCause, HasStatus, SomeRose}
-use Rattle.tools_cli.specs.declared.stop.Status.{Status}
-use Rattle.tools_cli.specs.declared.stop.Status.TheVariants as status
-use Rattle.tools_cli.specs.declared.stop.Stop.{Stop}
-use Rattle.tools_cli.specs.declared.stop.Stop.TheVariants as stop
+use Rattle.tools_cli_spec.specs.Prelude.{Text, Task, task_of, modules_of, texts_of, inputs_of, NamedFile, made, AreWrittenInPart, written_names, Job, Usage, Refused, Done, Whole, TooLong, gathered, most_input, InputsJob, TaskJob, refused_before, not_begun, too_long, all_read, HasJob, no_task, asked}
+use Rattle.tools_cli_decide.specs.Prelude.{refusal_text, StopsWith}
+use Rattle.tools_cli.specs.Causes.{PrintsAsAllowed}
+use Rattle.tools_cli_spec.specs.Prelude.{HostState, over_limit}
+use Rattle.tools_cli_spec.specs.CommandLine.{usage_line}
+use Rattle.tools_cli_spec.specs.ErrorLines.{IsLine, usage, fault_line, invalid_line, parts_line, link_line, join_line, graph_line, plan_line, split_line, eval_line, output_line, cannot_read_line, cannot_write_line, cannot_print_line, no_memory_line, no_memory, stop_line, Says}
+use Rattle.tools_cli.specs.Reports.{line_of, Reports}
+use Rattle.tools_cli.specs.Causes.{StopsGathering, StopsPreparing, StopsFinishing, AreOutputs, AllWritten, PrintsAfter}
+use Rattle.tools_cli_spec.specs.Turns.{MayHold}
+use Rattle.tools_cli.specs.Work.{IsUsage, StopsWork}
+use Rattle.tools_cli_spec.specs.Run.{PrintsNothing, JobIsDone, ChangesByTheJob, PrintsForTheJob, EndsDone, EndsRefused, Gains, IsSame, HasOutsideCause, HasStatus, SomeRose}
+use Rattle.tools_cli_spec.specs.declared.status.Status.{Status}
+use Rattle.tools_cli_spec.specs.declared.status.Status.TheVariants as status
+use Rattle.tools_cli_decide.specs.declared.stop.Stop.{Stop}
+use Rattle.tools_cli_decide.specs.declared.stop.Stop.TheVariants as stop
 use Rattle.wasm_tree_spec.specs.Prelude.{InputBytes}
-use Rattle.tools_cli.specs.declared.refusal.Refusal.{Refusal}
-use Rattle.tools_cli.specs.declared.refusal.Refusal.TheVariants as refusal
+use Rattle.tools_cli_decide.specs.declared.refusal.Refusal.{Refusal}
+use Rattle.tools_cli_decide.specs.declared.refusal.Refusal.TheVariants as refusal
 use Rattle.dce_graph.specs.declared.fault.GraphFault.TheVariants as graph
 use Rattle.split_plan.specs.declared.fault.PlanFault.TheVariants as plan
 use Rattle.split_spec.specs.declared.faults.SplitFault.TheVariants as split
-use Rattle.tools_cli_eval.specs.declared.evaluation.EvalFault.TheVariants as eval
+use Rattle.tools_cli_spec.specs.declared.evaluation.EvalFault.TheVariants as eval
 use Rattle.merge_spec.specs.declared.faults.LinkFault.TheVariants as link
 use Rattle.merge_spec.specs.declared.faults.JoinFault.TheVariants as join
 use Rattle.wasm_read_spec.specs.declared.fault.ReadFault.TheVariants as fault
-use Rattle.tools_cli.proofs.Faithful.{gathered_held}
+use Rattle.tools_cli_proof.proofs.Faithful.{gathered_held}
 use Rattle.tools_cli.proofs.Deciding.{text_contents}
 use Rattle.tools_cli.proofs.Pieces.{prefix_none}
 

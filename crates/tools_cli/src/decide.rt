@@ -1,75 +1,17 @@
 // What a task decides over what it has read.
 ghost use Rattle.std.specs.Prelude.{◌≡◌, ◌≤◌, ◌∷◌, [], length, None, IfOk, IfErr};
 ghost use Rattle.base_lists.specs.Every.{Every};
-ghost use Rattle.tools_cli.specs.CommandLine.{modules_of, inputs_of};
-ghost use Rattle.tools_cli.specs.Command.{task_value, output_value, decision_value, input_entries, input_texts};
-ghost use Rattle.tools_cli.specs.Job.{Decides, Makes, Refuses, refused_before, most_input};
-ghost use Rattle.tools_cli.specs.Causes.{IsWithinLimits, StopsWith, total};
+ghost use Rattle.tools_cli_spec.specs.CommandLine.{modules_of, inputs_of};
+ghost use Rattle.tools_cli_decide.specs.Command.{task_value, output_value, decision_value, input_entries, input_texts};
+ghost use Rattle.tools_cli_spec.specs.Job.{Decides, Makes, Refuses, refused_before, most_input};
+ghost use Rattle.tools_cli_decide.specs.Causes.{IsWithinLimits, StopsWith, total};
 
 use crate::evaluating::decide_ctor_eval;
-use crate::gather::Input;
-use crate::merging::decide_merge;
-use crate::sampling::decide_sample;
-use crate::splitting::decide_split;
-use crate::stop::Stop;
-use crate::sweeping::decide_metadce;
-use crate::task::Task;
 use std::alloc::Global;
-use wasm_bytes::NoMemory;
+use tools_cli_decide::{
+    Decision, Input, Stop, Task, decide_merge, decide_metadce, decide_sample, decide_split,
+};
 use wasm_valid::Valid;
-
-/// A module to be written, and the custom sections that follow it.
-#[derive(Drop)]
-pub(crate) struct Output {
-    pub(crate) name: String,
-    pub(crate) tree: Valid,
-    pub(crate) custom: Vec<u8>,
-}
-
-/// The outputs, in the order of writing, and the lines for standard output.
-#[derive(Drop)]
-pub(crate) struct Decision {
-    pub(crate) outputs: Vec<Output>,
-    pub(crate) lines: Vec<u8>,
-}
-
-/// Makes an output without custom sections.
-pub(crate) fn plain_output(alloc: Global, name: &str, tree: Valid) -> Result<Output, NoMemory>
-    ensures { IfOk result (λ output. output_value output ≡ record { name = name.now; tree = tree; custom = [] }) }
-{
-    let name = String::from_str(alloc, name)?;
-    let custom = Vec::new(alloc);
-    Ok(Output { name, tree, custom })
-}
-
-/// Makes a decision of one output without custom sections, and lines.
-pub(crate) fn one_output(
-    alloc: Global,
-    name: &str,
-    tree: Valid,
-    lines: Vec<u8>,
-) -> Result<Decision, NoMemory>
-    ensures { IfOk result (λ decision. decision_value decision ≡ Makes (record { name = name.now; tree = tree; custom = [] } ∷ []) lines.items) }
-{
-    let mut outputs = Vec::new(alloc);
-    outputs.push(plain_output(alloc, name, tree)?)?;
-    Ok(Decision { outputs, lines })
-}
-
-/// Makes a decision of two outputs, in the order of writing, and lines.
-pub(crate) fn two_outputs(
-    alloc: Global,
-    first: Output,
-    second: Output,
-    lines: Vec<u8>,
-) -> Result<Decision, NoMemory>
-    ensures { IfOk result (λ decision. decision_value decision ≡ Makes (output_value first ∷ output_value second ∷ []) lines.items) }
-{
-    let mut outputs = Vec::new(alloc);
-    outputs.push(first)?;
-    outputs.push(second)?;
-    Ok(Decision { outputs, lines })
-}
 
 /// Decides over the modules of a task and the contents of all its files.
 pub(crate) fn decide<'a>(

@@ -1,16 +1,15 @@
 // The outputs of a decision, encoded.
 ghost use Rattle.std.specs.Prelude.{◌≡◌, map, IfOk, IfErr};
 ghost use Rattle.std.specs.List.{list_all};
-ghost use Rattle.tools_cli.specs.Command.{decision_value, output_value, output_values, write_entry, write_entries};
-ghost use Rattle.tools_cli.specs.Job.{Done, Refused, job_of, is_within, spelled_output};
-ghost use Rattle.tools_cli.specs.Causes.{StopsWith};
+ghost use Rattle.tools_cli_decide.specs.Command.{decision_value, output_value, output_values};
+ghost use Rattle.tools_cli.specs.Writes.{write_entry, write_entries};
+ghost use Rattle.tools_cli_spec.specs.Job.{Done, Refused, job_of, is_within, spelled_output};
+ghost use Rattle.tools_cli_decide.specs.Causes.{StopsWith};
 
-use crate::decide::{Decision, Output};
 use crate::perform::Write;
-use crate::refusal::Refusal;
-use crate::stop::Stop;
 use std::alloc::Global;
 use std::mem::forget;
+use tools_cli_decide::{Decision, Output, Refusal, Stop};
 use wasm_bytes::NoMemory;
 use wasm_tree::{MOST_OUTPUT_BYTES, Which};
 use wasm_write::{fits, write};

@@ -1,18 +1,13 @@
 // What `ctor-eval` decides.
 ghost use Rattle.std.specs.Prelude.{◌≡◌, length, IfOk, IfErr};
 ghost use Rattle.tools_cli_eval.specs.Evaluations.{IsEvaluation};
-ghost use Rattle.tools_cli.specs.CommandLine.{CtorEval};
-ghost use Rattle.tools_cli.specs.Command.{ctor_eval_value, decision_value, input_texts};
-ghost use Rattle.tools_cli.specs.Job.{Decides, Evaluates, Refuses};
-ghost use Rattle.tools_cli.specs.Causes.{StopsWith, EvalFails};
+ghost use Rattle.tools_cli_spec.specs.CommandLine.{CtorEval};
+ghost use Rattle.tools_cli_decide.specs.Command.{ctor_eval_value, decision_value, input_texts};
+ghost use Rattle.tools_cli_spec.specs.Job.{Decides, Evaluates, Refuses};
+ghost use Rattle.tools_cli_decide.specs.Causes.{StopsWith, EvalFails};
 
-use crate::ctor_eval::CtorEvalTask;
-use crate::decide::{Decision, one_output};
-use crate::evaluation_lines::lines_after;
-use crate::gather::Input;
-use crate::refusal::refuse_eval;
-use crate::stop::Stop;
 use std::alloc::Global;
+use tools_cli_decide::{CtorEvalTask, Decision, Input, Stop, lines_after, one_output, refuse_eval};
 use tools_cli_eval::{Evaluation, evaluate};
 use wasm_valid::Valid;
 

@@ -2,22 +2,15 @@ ghost use Rattle.std.specs.Prelude.{◌≡◌, ◌<◌, ◌≤◌, ◌^◌, map,
 ghost use Rattle.base_lists.specs.Every.{Every};
 ghost use Rattle.wasm_bytes.specs.Reading.{IsBytes};
 ghost use Rattle.tool_io.specs.FilesAndSinks.{NoneFell};
-ghost use Rattle.tools_cli.specs.Job.{gathered, Whole};
-ghost use Rattle.tools_cli.specs.Command.{names_of, input_entries};
-ghost use Rattle.tools_cli.specs.Causes.{StopsGathering, total};
+ghost use Rattle.tools_cli_spec.specs.Job.{gathered, Whole};
+ghost use Rattle.tools_cli_decide.specs.Command.{names_of, input_entries};
+ghost use Rattle.tools_cli.specs.Causes.{StopsGathering};
+ghost use Rattle.tools_cli_decide.specs.Causes.{total};
 
-use crate::refusal::Refusal;
-use crate::stop::Stop;
 use std::alloc::Global;
 use tool_io::{Files, IoFault};
+use tools_cli_decide::{Input, Refusal, Stop};
 use wasm_tree::Which;
-
-/// A file that was read.
-#[derive(Drop)]
-pub(crate) struct Input<'a> {
-    pub(crate) name: &'a str,
-    pub(crate) bytes: Vec<u8>,
-}
 
 // States that the elements of a slice of bytes are below 256.
 fn are_bytes(bytes: &[u8])

@@ -3,14 +3,13 @@ ghost use Rattle.std.specs.Prelude.{◌≡◌, ◌≤◌, ◌<◌, ◌^◌, leng
 ghost use Rattle.wasm_tree.specs.Bounds.{IsBounded};
 ghost use Rattle.wasm_valid.specs.declared.kinds.Invalid as items;
 ghost use Rattle.wasm_valid.specs.First.{IsFirstInvalid};
-ghost use Rattle.tools_cli.specs.Command.{input_entries};
-ghost use Rattle.tools_cli.specs.Job.{LoadsFile, AllLoad, OneFails, IsAccepted, most_input};
-ghost use Rattle.tools_cli.specs.Causes.{total, StopsWith, InvalidText};
+ghost use Rattle.tools_cli_decide.specs.Command.{input_entries};
+ghost use Rattle.tools_cli_spec.specs.Job.{LoadsFile, AllLoad, OneFails, IsAccepted, most_input};
+ghost use Rattle.tools_cli_decide.specs.Causes.{total, StopsWith};
+ghost use Rattle.tools_cli.specs.Causes.{InvalidText};
 
-use crate::gather::Input;
-use crate::refusal::{refuse_fault, refuse_item};
-use crate::stop::Stop;
 use std::alloc::Global;
+use tools_cli_decide::{Input, Stop, refuse_fault, refuse_item};
 use wasm_read::read;
 use wasm_tree::Module;
 use wasm_valid::{Rejected, Valid, validate};

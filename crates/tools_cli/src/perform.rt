@@ -1,11 +1,11 @@
 ghost use Rattle.std.specs.Prelude.{◌≡◌, OnOk, IfErr};
 ghost use Rattle.tool_io.specs.FilesAndSinks.{NoneFell, Becomes};
-ghost use Rattle.tools_cli.specs.Effects.{made, AreWrittenInPart};
-ghost use Rattle.tools_cli.specs.Command.{write_entries};
+ghost use Rattle.tools_cli_spec.specs.Effects.{made, AreWrittenInPart};
+ghost use Rattle.tools_cli.specs.Writes.{write_entries};
 ghost use Rattle.tools_cli.specs.Causes.{StopsWriting};
 
-use crate::stop::Stop;
 use tool_io::{Files, IoFault};
+use tools_cli_decide::Stop;
 
 /// A file to be written.
 #[derive(Drop)]

@@ -1,16 +1,17 @@
 ghost use Rattle.std.specs.Prelude.{◌≡◌, ◌≤◌, ◌⊎◌, map, string_bytes, IfSome, None};
 ghost use Rattle.tool_io.specs.FilesAndSinks.{NoneFell, Becomes, Rose};
-ghost use Rattle.tools_cli.specs.CommandLine.{task_of, usage_line};
-ghost use Rattle.tools_cli.specs.Stop.{Says};
-ghost use Rattle.tools_cli.specs.Faithful.{EndsFaithful};
-ghost use Rattle.tools_cli.specs.Run.{ChangesByTheJob, PrintsForTheJob, PrintsNothing, EndsDone, EndsRefused, HasStatus, HasOutsideCause, SomeRose, IsSame, Gains, HostState};
+ghost use Rattle.tools_cli_spec.specs.CommandLine.{task_of, usage_line};
+ghost use Rattle.tools_cli_spec.specs.ErrorLines.{Says};
+ghost use Rattle.tools_cli_spec.specs.Faithful.{EndsFaithful};
+ghost use Rattle.tools_cli_spec.specs.Run.{ChangesByTheJob, PrintsForTheJob, PrintsNothing, EndsDone, EndsRefused, HasStatus, HasOutsideCause, SomeRose, IsSame, Gains, HostState};
 
-use crate::command_line::said_to_tool;
-use crate::laws::done_jobs_are_faithful;
-use crate::stop::{Status, report};
+use crate::report::report;
 use crate::work::run_command;
 use std::alloc::Global;
 use tool_io::{Files, Sink};
+use tools_cli_decide::said_to_tool;
+use tools_cli_proof::done_jobs_are_faithful;
+use tools_cli_spec::Status;
 
 /// Does what the arguments `words` of a command line ask for: reads the files, writes the outputs,
 /// and then prints the lines on `out`. Returns how this ended. For each status but `Done` a line on
@@ -53,7 +54,7 @@ pub fn run<F: Files, O: Sink, E: Sink>(
     // - ctor-eval: the output, to the module after its evaluated constructors;
     // - sample: as a merge, of its two modules.
     // For metadce and ctor-eval this is so in each environment that links the module, for the
-    // others in every environment. `equivalence` (specs/Faithful) has the numbers of steps. Besides
+    // others in every environment. `equivalence` (tools_cli_spec) has the numbers of steps. Besides
     // (`also`, with its premises in `FurtherClaims`): the parts of a merge or a sample may be
     // instantiated one after the other; the secondary module of a split always loads; the
     // evaluation of a ctor-eval is the machine's run.

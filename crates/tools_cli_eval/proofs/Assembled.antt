@@ -1,5 +1,5 @@
 -- The module after the calls that came to their ends.
-use Rattle.base_lists.proofs.Common.{◌≡◌, ◌∙◌, ap, sym, refl, subst, ℕ, zero, suc, ◌≤◌, arith, List, [], ◌∷◌, length, take, is_some, cond, Option, Some, None, ◌⊎◌, option_map, cons_option, option_or}
+use Rattle.base_lists.proofs.Common.{◌≡◌, ◌∙◌, ap, sym, refl, subst, ℕ, suc, ◌≤◌, arith, List, [], ◌∷◌, length, take, Option, Some, None, option_map, cons_option, option_or}
 use Rattle.wasm_tree_spec.specs.Prelude.{Which, Module}
 use Rattle.module_limits.specs.Counts.{over_limit}
 use Rattle.wasm_meaning.specs.Prelude.{Text}
@@ -12,41 +12,21 @@ use Rattle.eval_machine.specs.Calls.{StopsBoot}
 use Rattle.eval_snapshot_spec.specs.After.{IsAfter, TellsTheSame}
 use Rattle.eval_snapshot_spec.specs.Evaluated.{evaluated_count, evaluated_tree, first_missing, func_named, funcs_named, tree_in}
 use Rattle.eval_snapshot_spec.specs.Snapshot.{declared_snapshot, snapshot}
-use Rattle.eval_snapshot.specs.declared.faults.SnapshotFault.TheVariants as fault
-use Rattle.tools_cli_eval.specs.declared.evaluation.EvalFault.{EvalFault}
-use Rattle.tools_cli_eval.specs.declared.evaluation.EvalFault.TheVariants.{NoSuchExport, TooMany}
+use Rattle.tools_cli_spec.specs.declared.evaluation.EvalFault.{EvalFault}
+use Rattle.tools_cli_spec.specs.declared.evaluation.EvalFault.TheVariants.{NoSuchExport, TooMany}
 use Rattle.tools_cli_eval.specs.declared.evaluation.Evaluation.{Evaluation}
-use Rattle.tools_cli_eval.specs.declared.evaluation.Ending.TheVariants.{Instantiation}
+use Rattle.tools_cli_spec.specs.declared.evaluation.Ending.TheVariants.{Instantiation}
 use Rattle.tools_cli_eval.specs.declared.running.Calls.{Calls}
 use Rattle.tools_cli_eval.specs.Calls.{HaveEnded}
-use Rattle.tools_cli_eval.specs.Evaluations.{IsEvaluation, ended, fault_of}
+use Rattle.tools_cli_eval.specs.Evaluations.{IsEvaluation}
+use Rattle.tools_cli_spec.specs.Endings.{ended, fault_of}
+use Rattle.tools_cli_proof.proofs.FirstNames.{first_there, first_funcs}
 
 -- A snapshot does not depend on the turns that are left.
 turns_aside : (m : Module) (s : State) (t : ℕ) (evaluated kept : List Text) → snapshot m (record s { turns = t }) evaluated kept ≡ snapshot m s evaluated kept
 unfolding declared_snapshot
 turns_aside m s t [] kept = refl
 turns_aside m s t (name ∷ names) kept = refl
-
--- The first `n` of names that are not missing are not missing, and their functions are the first
--- `n`.
-pub first_there : (m : Module) (names : List Text) (n : ℕ) → first_missing m names ≡ None → first_missing m (take n names) ≡ None
-first_there m names zero h = refl
-first_there m [] (suc n) h = refl
-first_there m (name ∷ names) (suc n) h = by (func_named m name) h (first_there m names n)
-  where
-    by : (o : Option ℕ) → cond (is_some o) (first_missing m names) (Some name) ≡ None → (first_missing m names ≡ None → first_missing m (take n names) ≡ None) → cond (is_some o) (first_missing m (take n names)) (Some name) ≡ None
-    by None e later = absurd (cc)
-    by (Some func) e later = later e
-
-pub first_funcs : (m : Module) (names : List Text) (n : ℕ) → first_missing m names ≡ None → funcs_named m (take n names) ≡ take n (funcs_named m names)
-first_funcs m names zero h = refl
-first_funcs m [] (suc n) h = refl
-first_funcs m (name ∷ names) (suc n) h = by (func_named m name) h (first_funcs m names n)
-  where
-    by : (o : Option ℕ) → cond (is_some o) (first_missing m names) (Some name) ≡ None → (first_missing m names ≡ None → funcs_named m (take n names) ≡ take n (funcs_named m names)) →
-        cons_option o (funcs_named m (take n names)) ≡ take (suc n) (cons_option o (funcs_named m names))
-    by None e later = absurd (cc)
-    by (Some func) e later = ap (λ l. func ∷ l) (later e)
 
 -- Names have no more functions than there are names.
 few_funcs : (m : Module) (names : List Text) → length (funcs_named m names) ≤ length names

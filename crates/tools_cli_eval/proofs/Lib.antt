@@ -1,6 +1,3 @@
 mod Called
 mod Looked
 mod Assembled
-mod Memories
-mod TreesHold
-mod Behaving

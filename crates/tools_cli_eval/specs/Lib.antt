@@ -1,4 +1,3 @@
 pub mod Evaluations
 pub mod Named
 pub mod Calls
-pub mod Trees

@@ -8,9 +8,10 @@ ghost use Rattle.eval_machine.specs.Kept.{MachineFits, state_in};
 ghost use Rattle.eval_snapshot_spec.specs.After.{IsAfter};
 ghost use Rattle.eval_snapshot_spec.specs.Evaluated.{first_missing, funcs_named};
 ghost use Rattle.eval_snapshot_spec.specs.Snapshot.{snapshot as snapshot_of};
-ghost use Rattle.tools_cli_eval.specs.Evaluations.{IsEvaluation, ended, fault_of};
+ghost use Rattle.tools_cli_eval.specs.Evaluations.{IsEvaluation};
+ghost use Rattle.tools_cli_spec.specs.Endings.{ended, fault_of};
 ghost use Rattle.tools_cli_eval.specs.Named.{AreFuncsOf};
-ghost use Rattle.tools_cli_eval.specs.declared.evaluation.EvalFault.TheVariants.{NoMemory as OutOfMemory, TooMany as OverLimit};
+ghost use Rattle.tools_cli_spec.specs.declared.evaluation.EvalFault.TheVariants.{NoMemory as OutOfMemory, TooMany as OverLimit};
 
 use crate::named::{first_names, funcs_named};
 use crate::running::{Calls, call_all};
@@ -19,38 +20,9 @@ use eval_snapshot::{SnapshotFault, snapshot};
 use eval_spec::Stop;
 use module_limits::over_limit;
 use std::alloc::Global;
+use tools_cli_spec::{Ending, EvalFault};
 use wasm_bytes::{Items, Name, NoMemory};
-use wasm_tree::Which;
 use wasm_valid::Valid;
-
-/// Why an evaluation gives no module.
-#[derive(Drop)]
-pub enum EvalFault {
-    /// No function is exported under this listed name.
-    NoSuchExport { name: Name },
-    /// A count of the module after the evaluation is above its limit.
-    TooMany { which: Which },
-    NoMemory,
-}
-
-impl From<NoMemory> for EvalFault {
-    ghost from_gives = { λ _ e. e ≡ OutOfMemory };
-
-    fn from(_none: NoMemory) -> EvalFault {
-        EvalFault::NoMemory
-    }
-}
-
-/// How an evaluation ended.
-#[derive(Clone, Copy, Debug, PartialEq, Eq)]
-pub enum Ending {
-    /// Each listed constructor was evaluated.
-    Complete,
-    /// The instantiation or the start was stopped, and no constructor was called.
-    Instantiation(Stop),
-    /// The first constructor that was not evaluated was stopped.
-    Constructor(Stop),
-}
 
 /// The result of an evaluation.
 #[derive(Drop)]

@@ -4,22 +4,16 @@
 //! Files:
 //!
 //! - `evaluation`: The evaluation of listed constructors.
-//! - `laws`: Laws of the module after evaluated constructors.
 //! - `named`: The functions that are exported under names.
 //! - `running`: The calls of constructors, in order.
 //! - `specs/Calls`: Calls in order, by a machine.
 //! - `specs/Evaluations`: The result of evaluating listed constructors: a module, how many
 //!   constructors were evaluated and what ended the evaluation; or why there is no module.
 //! - `specs/Named`: Exports by their names, and functions of a module.
-//! - `specs/Trees`: The module after evaluated constructors, if no listed name is missing.
 #![tactic(auto)]
 
 mod evaluation;
-mod laws;
 mod named;
 mod running;
 
-pub use evaluation::{Ending, EvalFault, Evaluation, evaluate};
-pub use laws::{
-    evaluated_modules_are_snapshots, evaluated_modules_are_valid, evaluated_modules_behave,
-};
+pub use evaluation::{Evaluation, evaluate};

@@ -4,11 +4,11 @@ ghost use Rattle.wasm_valid.specs.Validity.{IsValid};
 ghost use Rattle.wasm_meaning.specs.State.{Text};
 ghost use Rattle.eval_snapshot_spec.specs.Evaluated.{first_missing, funcs_named};
 ghost use Rattle.tools_cli_eval.specs.Named.{AreFuncsOf, HasExports, func_under};
-ghost use Rattle.tools_cli_eval.specs.declared.evaluation.EvalFault.TheVariants.{NoMemory as OutOfMemory, NoSuchExport as Missing};
+ghost use Rattle.tools_cli_spec.specs.declared.evaluation.EvalFault.TheVariants.{NoMemory as OutOfMemory, NoSuchExport as Missing};
 
-use crate::evaluation::EvalFault;
 use std::alloc::Global;
 use std::collections::BTreeMap;
+use tools_cli_spec::EvalFault;
 use wasm_bytes::{Items, Name, NoMemory};
 use wasm_meaning::found_exports_are_there;
 use wasm_tree::{Export, ExportDesc, Module};

@@ -1,6 +1,6 @@
 use Rattle.std.proofs.Common.{◌<◌, ◌≤◌, sym, rules, length}
 use Rattle.wasm_write_spec.specs.Plain.{plain}
-use Rattle.tools_cli.specs.Job.{most_output}
+use Rattle.tools_cli_spec.specs.Job.{most_output}
 use Rattle.tools_cli.proofs.Encoding.{fits_is, exceeds_is, one_within, one_exceeds, none_left}
 use Rattle.tools_cli.proofs.encode.are_within.Goals as goal
 

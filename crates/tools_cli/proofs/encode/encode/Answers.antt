@@ -1,6 +1,7 @@
 use Rattle.base_lists.proofs.Common.{◌≡◌, ◌∙◌, ap, sym, true, false, rules, cond, map, List, list_all}
-use Rattle.tools_cli.specs.Prelude.{NamedFile, output_values, Done, Refused, is_within, spelled_output}
-use Rattle.tools_cli.specs.Texts.{too_many}
+use Rattle.tools_cli_spec.specs.Prelude.{NamedFile, Done, Refused, is_within, spelled_output}
+use Rattle.tools_cli_decide.specs.Prelude.{output_values}
+use Rattle.tools_cli_spec.specs.Texts.{too_many}
 use Rattle.wasm_tree.specs.declared.which.Which.TheVariants.{OutputBytes}
 use Rattle.tools_cli.proofs.encode.encode.Goals as goal
 

@@ -1,4 +1,4 @@
-use Rattle.tools_cli.specs.Command.{ctor_eval_value}
+use Rattle.tools_cli_decide.specs.Command.{ctor_eval_value}
 use Rattle.tools_cli.proofs.CtorEvalDecided.{eval_fails}
 use Rattle.tools_cli.proofs.evaluating.evaluate_by.Goals as goal
 

@@ -3,9 +3,9 @@ use Rattle.tool_io.specs.FilesAndSinks.{first_bytes}
 use Rattle.tools_cli.proofs.Gathering.{one_file_more, one_turn_more, too_long_told, this_turn, contains_name, same_read, one_name_more, one_total_more}
 use Rattle.wasm_bytes.specs.Reading.{IsBytes}
 use Rattle.tools_cli.proofs.ReadBytes.{one_more_read}
-use Rattle.tools_cli.proofs.Apart.{no_word}
-use Rattle.tools_cli.specs.Command.{input_entries}
-use Rattle.tools_cli.specs.declared.gather.Input.{Input}
+use Rattle.tools_cli.proofs.Gathering.{no_word}
+use Rattle.tools_cli_decide.specs.Command.{input_entries}
+use Rattle.tools_cli_decide.specs.declared.input.Input.{Input}
 use Rattle.tools_cli.proofs.gather.gather.Goals as goal
 
 pub returns-in-Err-Failed-clause-stops : goal.returns-in-Err-Failed-clause-stops

@@ -2,7 +2,8 @@ use Rattle.base_lists.proofs.Common.{◌≡◌, ◌≤◌, ◌++◌, ◌+◌, If
 use Rattle.base_lists.specs.Every.{Every}
 use Rattle.wasm_bytes.specs.Prelude.{IsBytes}
 use Rattle.tool_io.specs.FilesAndSinks.{NoneFell}
-use Rattle.tools_cli.specs.Prelude.{NamedFile, gathered, names_of, input_entries, total}
+use Rattle.tools_cli_spec.specs.Prelude.{NamedFile, gathered}
+use Rattle.tools_cli_decide.specs.Prelude.{names_of, input_entries, total}
 use Rattle.tools_cli.proofs.Gathering.{add_all, AreTurns, read_names}
 use Rattle.tools_cli.proofs.gather.gather.Given as goal
 

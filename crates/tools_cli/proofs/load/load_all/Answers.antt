@@ -1,6 +1,8 @@
 use Rattle.base_lists.proofs.Common.{◌≡◌, false, Err, arith}
-use Rattle.tools_cli.specs.Prelude.{Text, LoadsFile, OneFails, input_entries}
-use Rattle.tools_cli.proofs.Loading.{short_input, all_load, stops_weaker, fails_here}
+use Rattle.tools_cli_spec.specs.Prelude.{Text, LoadsFile, OneFails}
+use Rattle.tools_cli_decide.specs.Prelude.{input_entries}
+use Rattle.tools_cli.proofs.Loading.{short_input, all_load, fails_here}
+use Rattle.tools_cli_decide.proofs.Stops.{stops_weaker}
 use Rattle.tools_cli.proofs.load.load_all.Goals as goal
 
 pub load-requires : goal.load-requires

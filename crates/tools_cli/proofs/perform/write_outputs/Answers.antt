@@ -1,7 +1,8 @@
 use Rattle.base_lists.proofs.Common.{ap, arith, into_iter_items}
 use Rattle.tool_io.specs.FilesAndSinks.{Becomes}
-use Rattle.tools_cli.specs.Prelude.{write_entries, written_names}
-use Rattle.tools_cli.specs.Command.{write_entry}
+use Rattle.tools_cli.specs.Writes.{write_entries}
+use Rattle.tools_cli_spec.specs.Prelude.{written_names}
+use Rattle.tools_cli.specs.Writes.{write_entry}
 use Rattle.tools_cli.proofs.Gathering.{contains_later}
 use Rattle.tools_cli.proofs.Performing.{Writes, cut_more, made_more}
 use Rattle.tools_cli.proofs.perform.write_outputs.Goals as goal

@@ -1,7 +1,8 @@
 use Rattle.base_lists.proofs.Common.{◌≡◌, ℕ, List, Option, Contains}
 use Rattle.std.specs.Vec.Iter.{into_iter_items}  -- the elements that are still to come
 use Rattle.tool_io.specs.FilesAndSinks.{FileContents, NoneFell, Becomes}
-use Rattle.tools_cli.specs.Prelude.{made, AreWrittenInPart, written_names, write_entries}
+use Rattle.tools_cli_spec.specs.Prelude.{made, AreWrittenInPart, written_names}
+use Rattle.tools_cli.specs.Writes.{write_entries}
 use Rattle.tools_cli.proofs.perform.write_outputs.Given as goal
 
 abbrev pub invariant-loop-output : goal.invariant-loop-output

@@ -1,9 +1,10 @@
 use Rattle.std.proofs.Common.{map, string_bytes, subst, Result}
-use Rattle.tools_cli.specs.Run.{HostState, IsUsage}
-use Rattle.tools_cli.specs.declared.stop.Stop.{Stop}
+use Rattle.tools_cli_spec.specs.Run.{HostState}
+use Rattle.tools_cli.specs.Work.{IsUsage}
+use Rattle.tools_cli_decide.specs.declared.stop.Stop.{Stop}
 use Rattle.tools_cli.proofs.Running.{usage_told, no_stop_is_done, refusal_told, usage_at_stop, says_nothing, says_a_line, outside_cause, complete_at_stop}
-use Rattle.tools_cli.proofs.Faithful.{end_is_faithful}
-use Rattle.tools_cli.proofs.WordTexts.{strings_are_text}
+use Rattle.tools_cli.proofs.FaithfulEnds.{end_is_faithful}
+use Rattle.tools_cli.proofs.FaithfulEnds.{strings_are_text}
 use Rattle.tools_cli.proofs.top.run.Goals as goal
 
 pub returns-in-Ok-clause-faithful : goal.returns-in-Ok-clause-faithful

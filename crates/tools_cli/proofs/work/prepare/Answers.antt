@@ -1,9 +1,12 @@
 use Rattle.base_lists.proofs.Common.{◌≡◌, rules, IfSome, Some, None, Err, arith, IfOk-weaker, IfErr-weaker}
-use Rattle.tools_cli.specs.Prelude.{Text, inputs_of, written_names, task_value, input_entries, write_entries, InputsJob, TaskJob, Done, Refused, Whole, gathered, refused_before, most_input, refusal_text, PrintsAsAllowed, StopsWith}
+use Rattle.tools_cli_spec.specs.Prelude.{Text, inputs_of, written_names, InputsJob, TaskJob, Done, Refused, Whole, gathered, refused_before, most_input}
+use Rattle.tools_cli_decide.specs.Prelude.{task_value, input_entries, refusal_text, StopsWith}
+use Rattle.tools_cli.specs.Writes.{write_entries}
+use Rattle.tools_cli.specs.Causes.{PrintsAsAllowed}
 use Rattle.tools_cli.specs.Causes.{AreOutputs, StopsPreparing}
 use Rattle.tools_cli.proofs.Deciding.{text_contents, inputs_job_allowed}
 use Rattle.tools_cli.proofs.Running.{texts_held, decided_at, not_begun_at, preparing_from_planning, preparing_from_gathering}
-use Rattle.tools_cli.proofs.Faithful.{on_ok, read_bytes}
+use Rattle.tools_cli.proofs.FaithfulEnds.{on_ok, read_bytes}
 use Rattle.tools_cli.proofs.work.prepare.Goals as goal
 
 pub returns-clause-plan : goal.returns-clause-plan

@@ -1,9 +1,11 @@
 use Rattle.base_lists.proofs.Common.{◌≡◌, refl, map, rules, arith, string_bytes, Some, Err, IfErr-weaker}
-use Rattle.tools_cli.specs.Prelude.{task_value, write_entries, task_of, HostState}
+use Rattle.tools_cli_decide.specs.Prelude.{task_value}
+use Rattle.tools_cli.specs.Writes.{write_entries}
+use Rattle.tools_cli_spec.specs.Prelude.{task_of, HostState}
 use Rattle.tools_cli.specs.Causes.{StopsFinishing}
-use Rattle.tools_cli.specs.Run.{StopsWork}
+use Rattle.tools_cli.specs.Work.{StopsWork}
 use Rattle.tools_cli.proofs.Running.{changes_from_cut, prints_from_lines, ends_done, finish_stops, prepare_stops, has_no_lines}
-use Rattle.tools_cli.proofs.Faithful.{on_ok, words_read}
+use Rattle.tools_cli.proofs.FaithfulEnds.{on_ok, words_read}
 use Rattle.tools_cli.proofs.work.run_command.Goals as goal
 
 pub returns-clause-files : goal.returns-clause-files

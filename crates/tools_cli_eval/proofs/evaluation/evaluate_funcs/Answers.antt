@@ -1,7 +1,7 @@
 use Rattle.std.proofs.Common.{◌≡◌, ◌⊎◌, inr, Some, Result, Ok, Err, IfErr}
-use Rattle.tools_cli_eval.specs.declared.evaluation.EvalFault.{EvalFault}
-use Rattle.tools_cli_eval.specs.declared.evaluation.EvalFault.TheVariants.{NoMemory}
-use Rattle.tools_cli_eval.specs.Evaluations.{fault_of}
+use Rattle.tools_cli_spec.specs.declared.evaluation.EvalFault.{EvalFault}
+use Rattle.tools_cli_spec.specs.declared.evaluation.EvalFault.TheVariants.{NoMemory}
+use Rattle.tools_cli_spec.specs.Endings.{fault_of}
 use Rattle.tools_cli_eval.proofs.evaluation.evaluate_funcs.Goals as goal
 
 or_memory : {A : Type 0} (r : Result A EvalFault) (P : EvalFault → Type 0) → IfErr r P → IfErr r (λ f. (f ≡ NoMemory) ⊎ P f)

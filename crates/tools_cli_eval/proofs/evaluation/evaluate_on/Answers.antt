@@ -1,8 +1,9 @@
+use Rattle.tools_cli_eval.proofs.Assembled.{few_called, machine_is_after, some_evaluation, some_fault}
 use Rattle.std.proofs.Common.{◌≡◌, ◌⊎◌, arith, subst, refl, inl, inr, Some, Err}
-use Rattle.tools_cli_eval.specs.declared.evaluation.EvalFault.TheVariants.{NoMemory}
+use Rattle.tools_cli_spec.specs.declared.evaluation.EvalFault.TheVariants.{NoMemory}
 use Rattle.tools_cli_eval.specs.Calls.{HaveEnded}
-use Rattle.tools_cli_eval.specs.Evaluations.{fault_of}
-use Rattle.tools_cli_eval.proofs.Assembled.{few_called, machine_is_after, ready_unstopped, some_evaluation, some_fault}
+use Rattle.tools_cli_spec.specs.Endings.{fault_of}
+use Rattle.tools_cli_eval.proofs.Assembled.{ready_unstopped}
 use Rattle.tools_cli_eval.proofs.evaluation.evaluate_on.Goals as goal
 
 pub module_after-requires-clause-few : goal.module_after-requires-clause-few

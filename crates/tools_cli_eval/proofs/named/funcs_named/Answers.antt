@@ -1,7 +1,8 @@
+use Rattle.tools_cli_eval.proofs.Looked.{found_more}
 use Rattle.std.proofs.Common.{◌≡◌, ◌∙◌, ◌+◌, ap, sym, subst, Some}
 use Rattle.eval_snapshot_spec.specs.Evaluated.{func_named}
 use Rattle.tools_cli_eval.specs.Named.{func_under}
-use Rattle.tools_cli_eval.proofs.Looked.{Found, found_more}
+use Rattle.tools_cli_eval.proofs.Looked.{Found}
 use Rattle.tools_cli_eval.proofs.named.funcs_named.Goals as goal
 
 pub loop-name-preserved : goal.loop-name-preserved

@@ -1,10 +1,11 @@
+use Rattle.tools_cli_eval.proofs.Called.{stands_more, stopped_here}
 use Rattle.base_lists.proofs.Common.{◌≡◌, Ok, get_or, subst}
 use Rattle.wasm_bytes.specs.declared.name.NoMemory.{NoMemory}
 use Rattle.eval_spec.specs.Prelude.{Finished, call_end}
 use Rattle.eval_machine.specs.Prelude.{SameButForTurns, StopsCall, state_in}
 use Rattle.eval_machine.specs.Calls.{IfDone, IfNotDone, IfStopped}
 use Rattle.eval_machine.specs.declared.machine.Ran.{Ran}
-use Rattle.tools_cli_eval.proofs.Called.{stands_more, stopped_here, stopped_nowhere}
+use Rattle.tools_cli_eval.proofs.Called.{stopped_nowhere}
 use Rattle.tools_cli_eval.proofs.running.call_all.Goals as goal
 
 pub returns-in-Stopped-clause-ended : goal.returns-in-Stopped-clause-ended

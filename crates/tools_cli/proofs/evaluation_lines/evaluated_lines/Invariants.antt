@@ -1,6 +1,0 @@
-use Rattle.std.proofs.Common.{◌≡◌, ◌++◌, drop}
-use Rattle.tools_cli.specs.EvaluationLines.{evaluated_lines}
-use Rattle.tools_cli.proofs.evaluation_lines.evaluated_lines.Given as goal
-
-abbrev pub invariant-loop-name : goal.invariant-loop-name
-invariant-loop-name l = l.lines.items ++ evaluated_lines (drop l.name-index l.names) ≡ evaluated_lines l.names

@@ -1,0 +1,2 @@
+mod FaithfulRows
+mod MadeRows

@@ -1,0 +1,17 @@
+pub mod Numbers
+pub mod CommandLine
+pub mod Effects
+pub mod Texts
+pub mod Unused
+pub mod Unmarked
+pub mod KeptFuncs
+pub mod Endings
+pub mod EvaluationLines
+pub mod SampleLines
+pub mod Job
+pub mod ErrorLines
+pub mod Turns
+pub mod Run
+pub mod Trees
+pub mod Faithful
+pub mod Prelude
