@@ -1,6 +1,7 @@
 pub mod TypedCode
 pub mod SnapshotItems
 pub mod ValidSnapshots
+mod EnvironmentEntities
 mod GlobalConstants
 mod EmptyType
 pub mod CallsInOrder
