@@ -2,6 +2,7 @@ pub mod TypedCode
 pub mod SnapshotItems
 pub mod ValidSnapshots
 mod EnvironmentEntities
+mod MachineRows
 mod GlobalConstants
 mod EmptyType
 pub mod CallsInOrder

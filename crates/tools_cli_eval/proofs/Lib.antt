@@ -4,3 +4,4 @@ mod Assembled
 mod Memories
 mod TreesHold
 mod Behaving
+mod MachineRows
