@@ -6,3 +6,4 @@ mod MemoryBytes
 mod Counted
 mod Parts
 mod HeldData
+mod InRange

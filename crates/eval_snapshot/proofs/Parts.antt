@@ -1,5 +1,5 @@
 -- The snapshot of a module, assembled list by list.
-use Rattle.base_lists.proofs.Common.{◌≡◌, ◌∙◌, ap, ap₂, refl, ℕ, ◌<◌, List, [], ◌∷◌, ◌++◌, length, None, arith}
+use Rattle.base_lists.proofs.Common.{◌≡◌, ◌∙◌, ap, ap₂, refl, ℕ, List, [], ◌∷◌, ◌++◌, length, None, arith}
 use Rattle.std.proofs.Common.{filter_map}
 use Rattle.wasm_tree_spec.specs.Prelude.{Export, GlobalDef, Module, funcs_of, imported_globals}
 use Rattle.wasm_meaning.specs.Prelude.{Text}

@@ -7,6 +7,8 @@
 //! - `data_use`: Bodies that name data segments.
 //! - `exports`: The exports of a snapshot.
 //! - `faults`: Why no snapshot was made.
+//! - `in_range`: Numbers of a module in the ranges of their types: a walk over them carries out what
+//!   the types say.
 //! - `left`: The globals and the data segments of a snapshot.
 //! - `names`: Which exports stay, by name.
 //! - `snapshots`: The snapshot, or the first count that is above its limit.
@@ -20,6 +22,7 @@ mod contents;
 mod data_use;
 mod exports;
 mod faults;
+mod in_range;
 mod left;
 mod names;
 mod snapshots;

@@ -2,7 +2,6 @@ ghost use Rattle.std.specs.Prelude.{◌≡◌, ◌⊎◌, ◌<◌, ◌^◌, Some
 ghost use Rattle.wasm_tree.specs.Bounds.{IsBounded};
 ghost use Rattle.wasm_valid.specs.Validity.{IsValid};
 ghost use Rattle.module_limits.specs.Counts as counts;
-ghost use Rattle.eval_snapshot_proof.specs.Ranges.{BeginsInRange};
 ghost use Rattle.eval_machine.specs.Kept.{MachineFits, state_in};
 ghost use Rattle.eval_snapshot_spec.specs.Snapshot as spec;
 ghost use Rattle.eval_snapshot_spec.specs.After.{IsAfter};
@@ -11,6 +10,7 @@ ghost use Rattle.eval_snapshot.specs.Outcome.{SnapshotGives, first_counts as fir
 ghost use Rattle.eval_snapshot.specs.declared.faults.SnapshotFault.TheVariants.{NoMemory as OutOfMemory, TooMany as OverLimit};
 
 use crate::faults::SnapshotFault;
+use crate::in_range::begins_in_range;
 use crate::tree::tree;
 use eval_machine::Machine;
 use eval_snapshot_proof::{evaluated_states_suit, snapshot_equivalent, snapshots_are_valid};
@@ -101,9 +101,7 @@ fn tree_after(
 /// and 3.4.10).
 ///
 /// In each environment that links `input`, the snapshot is observationally equivalent, step by
-/// step, to `input` after these constructors (`behaves`). The premise (`BeginsInRange`) is that the
-/// tables that `input` defines have fewer than 2^32 slots at first and that its data segments hold
-/// bytes, as in every module that was read from a file.
+/// step, to `input` after these constructors (`behaves`).
 ///
 /// If memory runs out, the error is `NoMemory`, which says nothing about the snapshot. Otherwise
 /// the error is `TooMany` exactly if a count of the snapshot is above its limit; it has the first
@@ -121,12 +119,13 @@ pub fn snapshot(
     ensures tree { IfOk result (λ valid. SnapshotGives input (state_in input machine.now) evaluated.now kept.now (Ok valid)) }
     // In each environment that links the input, an embedder sees of the result what it sees of the
     // input after these constructors.
-    ensures behaves { IfOk result (λ valid. BeginsInRange input → ObservationallyEquivalent input evaluated.now kept.now valid) }
+    ensures behaves { IfOk result (λ valid. ObservationallyEquivalent input evaluated.now kept.now valid) }
     ensures fault { IfErr result (λ f. (f ≡ OutOfMemory) ⊎ SnapshotGives input (state_in input machine.now) evaluated.now kept.now (Err f)) }
 {
     snapshots_are_valid();
     evaluated_states_suit();
     snapshot_equivalent();
+    begins_in_range(input.module());
     let made = tree_after(
         alloc,
         input.into_module(),

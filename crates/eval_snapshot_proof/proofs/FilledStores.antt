@@ -12,7 +12,9 @@ use Rattle.world_simulation.specs.Prelude.{one, AddsWith, IsInst}
 use Rattle.eval_spec.specs.declared.stop.Stop.TheVariants as why
 use Rattle.eval_spec.specs.Prelude.{State, Stage, Going, Stopped, Finished, filled_from, imported_store, in_order, instantiated, none_written, own_inst, state_at_first, unknown_at_first, value_in, with_data, with_elem, with_segments}
 use Rattle.eval_proof.specs.KnownQuietSteps.{FuncsOf}
+use Rattle.eval_snapshot_proof.specs.QuietRunAddresses.{EnvironmentStays}
 use Rattle.eval_snapshot_proof.proofs.AddedFunctions.{with_funcs}
+use Rattle.eval_snapshot_proof.proofs.EnvironmentEntities.{stays_after, stays_joined}
 use Rattle.eval_snapshot_proof.proofs.AllocatedStores.{related_at_first}
 use Rattle.eval_snapshot_proof.proofs.AllocatedFunctions.{code_of}
 use Rattle.eval_snapshot_proof.proofs.NamedIndices.{NamingLaws, each_index}
@@ -30,16 +32,23 @@ abbrev AreWhole : ℕ → List ElemSeg → Store → Type 0
 AreWhole n es s = (k : ℕ) (e : ElemSeg) → slice_get es k ≡ Some e → (y : Elem) → slice_get s.elems (n + k) ≡ Some y → IsWhole e.mode e y
 
 module _ (env : Environment) (m : Module) (fs : List tree.Func) (i : Inst) (is : IsInst env (one (with_funcs m fs)) 0 (with_funcs m fs) i) (apart : OneToOneWhereWritten (R env m fs i is)) where
-  abbrev Alike : State → State → Filled → Type 0
+  abbrev Alike : State → State → Store → Filled → Type 0
   Alike = CopiedAlike env m fs i is apart
 
   -- One copy followed by others.
-  then_alike : (s r t : State) (f : Filled) (g : Store → Filled) (a : Alike s r f) → Alike r t (g a.store) → Alike s t (and_then f g)
-  then_alike s r t f g a b = record { store = b.store; filled = ap (λ f. and_then f g) a.filled ∙ b.filled; related = b.related; funcs = b.funcs ∙ a.funcs; turns = b.turns ∙ a.turns }
+  then_alike : (s r t : State) (x : Store) (f : Filled) (g : Store → Filled) (a : Alike s r x f) → Alike r t a.store (g a.store) → Alike s t x (and_then f g)
+  then_alike s r t x f g a b = record {
+    store = b.store;
+    filled = ap (λ f. and_then f g) a.filled ∙ b.filled;
+    related = b.related;
+    funcs = b.funcs ∙ a.funcs;
+    turns = b.turns ∙ a.turns;
+    stays = stays_after env x a.store b.store a.stays b.stays;
+  }
 
   elems_alike : (es : List ElemSeg) (n : ℕ) (s t : State) (x : Store) → ((k : ℕ) → k < length es → n + k < length m.elems) → AreWhole n es s.store → StoreRelOff (R env m fs i is) s.unknown s.store x →
       in_order (with_elem m) (Finished s) (segments_in 0 (own_inst m) (numbers n (length es)) es) ≡ Finished t →
-      Alike s t (one_by_one (run_elem env (one (with_funcs m fs)) (i ∷ [])) x (segments_in 0 i (numbers n (length es)) es))
+      Alike s t x (one_by_one (run_elem env (one (with_funcs m fs)) (i ∷ [])) x (segments_in 0 i (numbers n (length es)) es))
   elems_alike [] n s t x low whole r h = nothing_copied env m fs i is apart s t x r h
   elems_alike (e ∷ es) n s t x low whole r h =
       let z : n + 0 ≡ n = omega arith in
@@ -52,11 +61,11 @@ module _ (env : Environment) (m : Module) (fs : List tree.Func) (i : Inst) (is :
       let c = a.copied in
       let rest = elems_alike es (suc n) b.0 t c.store (λ k l. let w = low (suc k) (omega (arith, l)) in omega (arith, w)) more_whole c.related
       (ap (λ t. in_order (with_elem m) t (segments_in 0 (own_inst m) (numbers (suc n) (length es)) es)) (sym b.1) ∙ h) in
-      then_alike s b.0 t _ (λ x. one_by_one (run_elem env (one (with_funcs m fs)) (i ∷ [])) x (segments_in 0 i (numbers (suc n) (length es)) es)) c rest
+      then_alike s b.0 t x _ (λ x. one_by_one (run_elem env (one (with_funcs m fs)) (i ∷ [])) x (segments_in 0 i (numbers (suc n) (length es)) es)) c rest
 
   datas_alike : (ds : List DataSeg) (n : ℕ) (s t : State) (x : Store) → ((k : ℕ) → k < length ds → n + k < length m.datas) → StoreRelOff (R env m fs i is) s.unknown s.store x →
       in_order (with_data m) (Finished s) (segments_in 0 (own_inst m) (numbers n (length ds)) ds) ≡ Finished t →
-      Alike s t (one_by_one (run_data env (one (with_funcs m fs)) (i ∷ [])) x (segments_in 0 i (numbers n (length ds)) ds))
+      Alike s t x (one_by_one (run_data env (one (with_funcs m fs)) (i ∷ [])) x (segments_in 0 i (numbers n (length ds)) ds))
   datas_alike [] n s t x low r h = nothing_copied env m fs i is apart s t x r h
   datas_alike (d ∷ ds) n s t x low r h =
       let first_low : n < length m.datas = let l = low 0 (omega arith) in omega (arith, l) in
@@ -64,11 +73,11 @@ module _ (env : Environment) (m : Module) (fs : List tree.Func) (i : Inst) (is :
       let c = data_alike env m fs i is apart s b.0 x n d first_low r d.mode refl b.1 in
       let rest = datas_alike ds (suc n) b.0 t c.store (λ k l. let w = low (suc k) (omega (arith, l)) in omega (arith, w)) c.related
       (ap (λ t. in_order (with_data m) t (segments_in 0 (own_inst m) (numbers (suc n) (length ds)) ds)) (sym b.1) ∙ h) in
-      then_alike s b.0 t _ (λ x. one_by_one (run_data env (one (with_funcs m fs)) (i ∷ [])) x (segments_in 0 i (numbers (suc n) (length ds)) ds)) c rest
+      then_alike s b.0 t x _ (λ x. one_by_one (run_data env (one (with_funcs m fs)) (i ∷ [])) x (segments_in 0 i (numbers (suc n) (length ds)) ds)) c rest
 
   -- The copies of all segments.
   segments_alike : (s t : State) (x : Store) → AreWhole 0 m.elems s.store → StoreRelOff (R env m fs i is) s.unknown s.store x → with_segments m s ≡ Finished t →
-      Alike s t (segments env (one (with_funcs m fs)) (i ∷ []) x)
+      Alike s t x (segments env (one (with_funcs m fs)) (i ∷ []) x)
   segments_alike s t x whole r h =
       let elems = segments_in 0 (own_inst m) (own_inst m).elems m.elems in
       let datas = segments_in 0 (own_inst m) (own_inst m).datas m.datas in
@@ -79,9 +88,9 @@ module _ (env : Environment) (m : Module) (fs : List tree.Func) (i : Inst) (is :
       ∙ sym (append-nil (segments_in 0 i i.elems m.elems)) in
       let placed_second : segments_in 0 i (numbers 0 (length m.datas)) m.datas ≡ placed_datas 0 (one (with_funcs m fs)) (i ∷ []) = ap (λ ns. segments_in 0 i ns m.datas) (sym is.datas)
       ∙ sym (append-nil (segments_in 0 i i.datas m.datas)) in
-      subst (Alike s t) (ap₂ (λ xs ys. and_then (one_by_one (run_elem env (one (with_funcs m fs)) (i ∷ [])) x xs)
+      subst (Alike s t x) (ap₂ (λ xs ys. and_then (one_by_one (run_elem env (one (with_funcs m fs)) (i ∷ [])) x xs)
       (λ s. one_by_one (run_data env (one (with_funcs m fs)) (i ∷ [])) s ys)) placed_first placed_second)
-      (then_alike s b.0 t _ (λ s. one_by_one (run_data env (one (with_funcs m fs)) (i ∷ [])) s (segments_in 0 i (numbers 0 (length m.datas)) m.datas)) first second)
+      (then_alike s b.0 t x _ (λ s. one_by_one (run_data env (one (with_funcs m fs)) (i ∷ [])) s (segments_in 0 i (numbers 0 (length m.datas)) m.datas)) first second)
 
   -- ---- from what is allocated ----
 
@@ -106,6 +115,7 @@ module _ (env : Environment) (m : Module) (fs : List tree.Func) (i : Inst) (is :
     pub related : StoreRelOff (R env m fs i is) t.unknown t.store store
     pub funcs : FuncsOf (own_inst m) t.store.funcs
     pub left : t.turns ≡ turns
+    pub stays : EnvironmentStays env (own_store env) store
 
   module _ (laws : NamingLaws) (names : TreeNamesOnly (with_entry (each_index m)) m) (there : Store) (allocated : part_store env (one (with_funcs m fs)) (i ∷ []) 0 (with_funcs m fs) i ≡ Some there) where
     filled_alike : (turns : ℕ) (t : State) (o : Option Store) → store_with (value_in m) m (own_inst m) ≡ o →
@@ -118,7 +128,7 @@ module _ (env : Environment) (m : Module) (fs : List tree.Func) (i : Inst) (is :
         let first = related_at_first laws env m fs i is names quiet there q d in
         let s : State = record { store = joined_stores (imported_store m) quiet; unknown = unknown_at_first m; written = none_written m.mems; turns = turns } in
         let a = segments_alike s t (joined_stores (own_store env) there) (whole_at_first quiet q) first h in
-        record { store = a.store; filled = a.filled; related = a.related; funcs = subst (FuncsOf (own_inst m)) (sym a.funcs) (code_of m names quiet q); left = a.turns }
+        record { store = a.store; filled = a.filled; related = a.related; funcs = subst (FuncsOf (own_inst m)) (sym a.funcs) (code_of m names quiet q); left = a.turns; stays = stays_after env (own_store env) (joined_stores (own_store env) there) a.store (stays_joined env there) a.stays }
 
     one_memory : (b : Bool) (turns : ℕ) (t : Stage) (r : State) → cond b (Stopped why.Memory turns) t ≡ Finished r → t ≡ Finished r
     one_memory true turns t r e = absurd (let k = e in cc)

@@ -67,6 +67,10 @@ module _ (m : Module) (i : Inst) where
         let same : r.base + x ≡ a = same_Some (r.base + x) a (sym (numbers_at r.base r.count x (omega (arith, within, size))) ∙ got) in
         omega (arith, same, e)
 
+    -- A definition has none of the addresses before those of the definitions.
+    pub past_base : (k : Space) → (w : is_written k ≡ true) → (n a : ℕ) → IsTrue (stands_at m i k n a) → (rows k w).base ≤ a
+    past_base k w n a h = let e = place k w n a h in let le = defined k w n a h in let many = (rows k w).many in omega (arith, e, le, many)
+
     pub apart : OneToOneWhereWritten (passed (stands_at m i) (names_at m i) [])
     apart = record {
       right = λ {k} w n a b p q. same_Some a b (sym (named k n a p) ∙ named k n b q);

@@ -128,6 +128,7 @@ module _ (env : Environment) (m : Module) (constructors kept : List Text) (t : S
         quiet = s;
         is_quiet = h;
         turns = omega (arith, left);
+        stays = both.stays;
         funcs = both.funcs;
         related = both.related;
         called = append_rel (started m names env more i made.shape m.start (started_func m names)) called.related;

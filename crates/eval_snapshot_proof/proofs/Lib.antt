@@ -1,6 +1,8 @@
 pub mod TypedCode
 pub mod SnapshotItems
 pub mod ValidSnapshots
+mod EnvironmentEntities
+mod MachineRows
 mod GlobalConstants
 mod EmptyType
 pub mod CallsInOrder

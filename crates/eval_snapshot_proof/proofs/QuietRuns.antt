@@ -2,7 +2,7 @@
 -- are instantiated.
 use Rattle.base_lists.proofs.Common.{◌≡◌, ◌∙◌, sym, ap, refl, ℕ, ◌≤◌, List, [], ◌∷◌, ◌++◌, Option, Some, None, false}
 use Rattle.wasm_tree_spec.specs.Prelude.{Functions, Module}
-use Rattle.wasm_meaning.specs.Prelude.{Text, Inst, Environment, Begun, insts_from, instantiate}
+use Rattle.wasm_meaning.specs.Prelude.{Text, Inst, Environment, Begun, insts_from, instantiate, own_store}
 use Rattle.run_simulation.specs.Prelude.{ListRel, passed, StoreRelOff, StepsAgreeOff, RunsAgreeOff}
 use Rattle.world_simulation.specs.Prelude.{one, IsInst}
 use Rattle.eval_spec.specs.declared.limits.TheConstants.{MOST_TURNS}
@@ -14,7 +14,8 @@ use Rattle.eval_proof.specs.EndsAndCounts.{EndsAreReached}
 use Rattle.eval_snapshot_spec.specs.Evaluated.{funcs_named}
 use Rattle.eval_snapshot_spec.specs.Snapshot.{empty_func}
 use Rattle.eval_snapshot_proof.specs.EvaluatedWorlds.{addresses_of, evaluated_world, with_empty_func}
-use Rattle.eval_snapshot_proof.specs.QuietRunAddresses.{IsTheMachines, names_at, stands_at}
+use Rattle.eval_snapshot_proof.specs.QuietRunAddresses.{EnvironmentStays, IsTheMachines, names_at, stands_at}
+use Rattle.eval_snapshot_proof.proofs.EnvironmentEntities.{stays_after, stays_alone}
 use Rattle.eval_snapshot_proof.proofs.RelatedCalls.{calls_alike}
 use Rattle.eval_snapshot_proof.proofs.IndexRelation.{apart, relates}
 use Rattle.eval_snapshot_proof.proofs.RowsOfAddresses.{rows}
@@ -42,6 +43,7 @@ pub record BothInstantiated (env : Environment) (m : Module) (constructors kept 
   pub quiet : State
   pub is_quiet : instantiated m MOST_TURNS ≡ Finished quiet
   pub turns : quiet.turns ≤ MOST_TURNS
+  pub stays : EnvironmentStays env (own_store env) begun.store
   pub funcs : FuncsOf (own_inst m) quiet.store.funcs
   pub related : StoreRelOff (passed (stands_at m inst) (names_at m inst) []) quiet.unknown quiet.store begun.store
   pub called : ListRel ((passed (stands_at m inst) (names_at m inst) []).of Functions) (start_of m.start ++ funcs_named m constructors) (begun.starts ++ addresses)
@@ -67,6 +69,7 @@ module _ (known : QuietCallsAreKnown) (lead : QuietCallsSimulate) (agree : Steps
           inst = b.inst;
           is_inst = b.is_inst;
           related = r.related;
+          stays = stays_after env (own_store env) b.begun.store r.after b.stays (stays_alone env m (empty_func m ∷ []) b.inst b.shape t.unknown b.begun.store r.after r.alone);
         };
         alone = r.alone;
       }

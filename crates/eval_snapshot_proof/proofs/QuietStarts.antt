@@ -5,15 +5,17 @@ use Rattle.wasm_tree_spec.specs.Prelude.{Functions, Module}
 use Rattle.wasm_tree.specs.declared.module.Func as tree
 use Rattle.wasm_valid.specs.Prelude.{IsValid}
 use Rattle.wasm_meaning.specs.Prelude.{Inst, Store, Environment, Begun, alone, begun, insts_from, instantiate, joined_stores, links, own_store, part_store, segments, start_in, stores_from}
-use Rattle.run_simulation.specs.Prelude.{Pairing, ListRel, OneToOneWhereWritten, nil, passed, StoreRelOff, StepsAgreeOff, RunsAgreeOff}
+use Rattle.run_simulation.specs.Prelude.{Pairing, Unknowns, ListRel, OneToOneWhereWritten, nil, passed, StoreRelOff, StepsAgreeOff, RunsAgreeOff}
 use Rattle.index_remap_proof.specs.Indices.{TreeNamesOnly, with_entry}
 use Rattle.world_simulation.specs.Prelude.{one, WhatIsInstantiated, IsInst}
 use Rattle.eval_spec.specs.declared.limits.TheConstants.{MOST_TURNS}
 use Rattle.eval_spec.specs.Prelude.{State, Stage, Finished, after_start, instantiated, own_inst, called_in_order, evaluated}
 use Rattle.eval_proof.specs.KnownQuietSteps.{FuncsOf, QuietCallsAreKnown}
+use Rattle.eval_proof.specs.UnrelatedPlaces.{LeavesAlone}
 use Rattle.eval_proof.specs.QuietCalls.{QuietCallsSimulate}
 use Rattle.eval_proof.specs.EndsAndCounts.{EndsAreReached}
-use Rattle.eval_snapshot_proof.specs.QuietRunAddresses.{StartIsTheMachines, names_at, stands_at}
+use Rattle.eval_snapshot_proof.specs.QuietRunAddresses.{EnvironmentStays, StartIsTheMachines, names_at, stands_at}
+use Rattle.eval_snapshot_proof.proofs.EnvironmentEntities.{stays_after, stays_alone}
 use Rattle.eval_snapshot_proof.proofs.FilledStores.{both_filled}
 use Rattle.eval_snapshot_proof.proofs.RelatedCalls.{calls_alike}
 use Rattle.eval_snapshot_proof.proofs.NamedIndices.{NamingLaws, each_index, names_there}
@@ -34,6 +36,8 @@ module _ (naming : NamingLaws) (env : Environment) (m : Module) (names : TreeNam
     pub related : StoreRelOff (R i) s.unknown s.store store
     pub funcs : FuncsOf (own_inst m) s.store.funcs
     pub turns : s.turns ≤ MOST_TURNS
+    pub stays : EnvironmentStays env (own_store env) store
+    pub all : (u : Unknowns) (r t : Store) → LeavesAlone (R i) u r t → EnvironmentStays env r t
     pub apart : OneToOneWhereWritten (R i)
     pub starts : ListRel ((R i).of Functions) (start_of m.start) (start_in i m.start ++ [])
 
@@ -50,6 +54,8 @@ module _ (naming : NamingLaws) (env : Environment) (m : Module) (names : TreeNam
         related = both.related;
         funcs = both.funcs;
         turns = omega (arith, left);
+        stays = both.stays;
+        all = stays_alone env m [] i is;
         apart = apart m i (rows env m [] i is);
         starts = started m names env [] i is m.start (started_func m names);
       }
@@ -69,6 +75,8 @@ module _ (naming : NamingLaws) (env : Environment) (m : Module) (names : TreeNam
     pub related : StoreRelOff (R inst) s.unknown s.store begun.store
     pub funcs : FuncsOf (own_inst m) s.store.funcs
     pub turns : s.turns ≤ MOST_TURNS
+    pub stays : EnvironmentStays env (own_store env) begun.store
+    pub all : (u : Unknowns) (r t : Store) → LeavesAlone (R inst) u r t → EnvironmentStays env r t
     pub apart : OneToOneWhereWritten (R inst)
     pub starts : ListRel ((R inst).of Functions) (start_of m.start) begun.starts
 
@@ -91,6 +99,8 @@ module _ (naming : NamingLaws) (env : Environment) (m : Module) (names : TreeNam
         related = f.related;
         funcs = f.funcs;
         turns = f.turns;
+        stays = f.stays;
+        all = f.all;
         apart = f.apart;
         starts = f.starts;
       }
@@ -112,6 +122,7 @@ module _ (known : QuietCallsAreKnown) (lead : QuietCallsSimulate) (agree : Steps
         inst = b.inst;
         is_inst = b.is_inst;
         related = r.related;
+        stays = stays_after env (own_store env) b.begun.store r.after b.stays (b.all t.unknown b.begun.store r.after r.alone);
       }
 
   pub start_is : WhatIsInstantiated → IsValid m → evaluated m [] ≡ Finished t → IsTrue (links env (alone m)) → StartIsTheMachines env m t

@@ -14,7 +14,9 @@ use Rattle.run_simulation.proofs.UnknownPlaces.{changed_off}
 use Rattle.world_simulation.specs.Prelude.{one, offset_in, IsInst}
 use Rattle.run_simulation.specs.Related as related
 use Rattle.eval_spec.specs.Prelude.{State, Finished, is_imported, written_after, copied_slots, data_tests, elem_tests, own_inst, place_in, reads_global, value_in, with_data_mode, with_elem_mode}
+use Rattle.eval_snapshot_proof.specs.QuietRunAddresses.{EnvironmentStays}
 use Rattle.eval_snapshot_proof.proofs.AddedFunctions.{with_funcs}
+use Rattle.eval_snapshot_proof.proofs.EnvironmentEntities.{memory_past, stays_itself, stays_with_memory, stays_with_table, table_past}
 use Rattle.eval_snapshot_proof.proofs.OverwrittenLists.{KnownAfter, copied_off}
 use Rattle.eval_snapshot_proof.proofs.IndexRelation.{relates}
 use Rattle.eval_snapshot_proof.proofs.UnknownSlots.{other_table, this_table}
@@ -39,22 +41,23 @@ module _ (env : Environment) (m : Module) (fs : List tree.Func) (i : Inst) (is :
   task n e = record { part = 0; inst = i; address = n; segment = e }
 
   -- The copy in the environment does not trap, and its store is related to that of the quiet run,
-  -- whose functions and turns are unchanged.
-  pub record CopiedAlike (s t : State) (f : Filled) : Type 0 where
+  -- whose functions and turns are unchanged. It writes nothing that the environment owns.
+  pub record CopiedAlike (s t : State) (x : Store) (f : Filled) : Type 0 where
     pub store : Store
     pub filled : f ≡ record { store = store; trapped = false }
     pub related : StoreRelOff S t.unknown t.store store
     pub funcs : t.store.funcs ≡ s.store.funcs
     pub turns : t.turns ≡ s.turns
+    pub stays : EnvironmentStays env x store
 
   -- A copy of an element segment changes no other element segment.
-  pub record ElemAlike (n : ℕ) (s t : State) (f : Filled) : Type 0 where
-    pub copied : CopiedAlike s t f
+  pub record ElemAlike (n : ℕ) (s t : State) (x : Store) (f : Filled) : Type 0 where
+    pub copied : CopiedAlike s t x f
     pub others : (k : ℕ) → (n ≡ k → ⊥) → slice_get t.store.elems k ≡ slice_get s.store.elems k
 
-  pub nothing_copied : (s t : State) (x : Store) → StoreRelOff S s.unknown s.store x → Finished s ≡ Finished t → CopiedAlike s t (record { store = x; trapped = false })
+  pub nothing_copied : (s t : State) (x : Store) → StoreRelOff S s.unknown s.store x → Finished s ≡ Finished t → CopiedAlike s t x (record { store = x; trapped = false })
   nothing_copied s t x r e = let same : s ≡ t = cc in
-      subst (λ t. CopiedAlike s t (record { store = x; trapped = false })) same (record { store = x; filled = refl; related = r; funcs = refl; turns = refl })
+      subst (λ t. CopiedAlike s t x (record { store = x; trapped = false })) same (record { store = x; filled = refl; related = r; funcs = refl; turns = refl; stays = stays_itself env x })
 
   elem_related : (n : ℕ) → n < length m.elems → S.of ElementSegments n n
   elem_related n lt = relates m i ElementSegments n n
@@ -107,7 +110,7 @@ module _ (env : Environment) (m : Module) (fs : List tree.Func) (i : Inst) (is :
       ((y : Elem) → slice_get s.store.elems n ≡ Some y → length y.items ≡ length e.items) →
       reads_global offset ≡ false → is_imported m Tables table ≡ false → ElemCopied s.store n (own_inst m) table (offset_in (value_in m) offset) →
       with_slots s n table (place_in m offset) (length e.items) (copy_elem s.store n (own_inst m) table (offset_in (value_in m) offset)).store ≡ t →
-      ElemAlike n s t (copy_elem x n i table (offset_in (value_there env m fs i is) offset))
+      ElemAlike n s t x (copy_elem x n i table (offset_in (value_there env m fs i is) offset))
   elem_went s t x n e table offset low r whole reads own c same =
       let index = numbers_is (length (tables_of m)) table c.address c.address_is in
       let there = table_there env m fs i is table index.0 in
@@ -127,23 +130,24 @@ module _ (env : Environment) (m : Module) (fs : List tree.Func) (i : Inst) (is :
       let left : (copy_elem s.store n (own_inst m) table (offset_in (value_in m) offset)).store ≡ with_table s.store n table c.table c.slots =
       c.left ∙ ap (λ a. with_table s.store n a c.table c.slots) (sym index.1) in
       let end : state (with_table s.store n table c.table c.slots) c.place ≡ t = sym (ap₂ state left (ap (λ o. unwrap_or o 0) c.place_is)) ∙ same in
-      subst (λ t. ElemAlike n s t (copy_elem x n i table (offset_in (value_there env m fs i is) offset))) end (record {
+      subst (λ t. ElemAlike n s t x (copy_elem x n i table (offset_in (value_there env m fs i is) offset))) end (record {
         copied = record {
           store = with_table x n there.address u.0 k.slots;
           filled = elem_copies x n i table _ c.place there.address u.0 d.0 k.slots (offset_stays env m fs i is offset c.place reads c.place_is) there.is_there u.1 d.1 k.written;
           related = second;
           funcs = refl;
           turns = refl;
+          stays = stays_with_table env x n there.address u.0 k.slots (table_past env m fs i is table there.address at);
         };
         others = λ k other. set_other s.store.elems n k no_items (λ e. other (sym e));
       })
 
-  elem_none : (n : ℕ) (s t : State) (x : Store) → StoreRelOff S s.unknown s.store x → Finished s ≡ Finished t → ElemAlike n s t (record { store = x; trapped = false })
+  elem_none : (n : ℕ) (s t : State) (x : Store) → StoreRelOff S s.unknown s.store x → Finished s ≡ Finished t → ElemAlike n s t x (record { store = x; trapped = false })
   elem_none n s t x r e = let same : s ≡ t = cc in record { copied = nothing_copied s t x r e; others = λ k other. ap (λ (t : State). slice_get t.store.elems k) (sym same) }
 
   pub elem_alike : (s t : State) (x : Store) (n : ℕ) (e : ElemSeg) → n < length m.elems → StoreRelOff S s.unknown s.store x → (mode : ElemMode) →
       ((y : Elem) → slice_get s.store.elems n ≡ Some y → IsWhole mode e y) → e.mode ≡ mode → with_elem_mode m s (quiet_task n e) mode ≡ Finished t →
-      ElemAlike n s t (run_elem_with (value_there env m fs i is) x (task n e) mode)
+      ElemAlike n s t x (run_elem_with (value_there env m fs i is) x (task n e) mode)
   elem_alike s t x n e low r elem.Passive whole is_mode h = elem_none n s t x r h
   elem_alike s t x n e low r elem.Declarative whole is_mode h = elem_none n s t x r h
   elem_alike s t x n e low r (elem.Active table offset) whole is_mode h =
@@ -161,7 +165,7 @@ module _ (env : Environment) (m : Module) (fs : List tree.Func) (i : Inst) (is :
       is_imported m Memories memory ≡ false →
       DataCopied s.store n (own_inst m) memory (offset_in (value_in m) offset) →
       record s { store = (copy_data s.store n (own_inst m) memory (offset_in (value_in m) offset)).store; written = written } ≡ t →
-      CopiedAlike s t (copy_data x n i memory (offset_in (value_there env m fs i is) offset))
+      CopiedAlike s t x (copy_data x n i memory (offset_in (value_there env m fs i is) offset))
   data_went s t x n memory offset written low r reads own c same =
       let index = numbers_is (length (memories_of m)) memory c.address c.address_is in
       let there = memory_there env m fs i is memory index.0 in
@@ -176,17 +180,18 @@ module _ (env : Environment) (m : Module) (fs : List tree.Func) (i : Inst) (is :
       let left : (copy_data s.store n (own_inst m) memory (offset_in (value_in m) offset)).store ≡ with_memory s.store n memory c.memory c.bytes =
       c.left ∙ ap (λ a. with_memory s.store n a c.memory c.bytes) (sym index.1) in
       let end : state (with_memory s.store n memory c.memory c.bytes) ≡ t = sym (ap state left) ∙ same in
-      subst (λ t. CopiedAlike s t (copy_data x n i memory (offset_in (value_there env m fs i is) offset))) end (record {
+      subst (λ t. CopiedAlike s t x (copy_data x n i memory (offset_in (value_there env m fs i is) offset))) end (record {
         store = with_memory x n there.address c.memory c.bytes;
         filled = data_copies x n i memory _ c.place there.address c.memory d.0 c.bytes (offset_stays env m fs i is offset c.place reads c.place_is) there.is_there memory_there_is d.1 written_there;
         related = second;
         funcs = refl;
         turns = refl;
+        stays = stays_with_memory env x n there.address c.memory c.bytes (memory_past env m fs i is memory there.address at);
       })
 
   pub data_alike : (s t : State) (x : Store) (n : ℕ) (d : DataSeg) → n < length m.datas → StoreRelOff S s.unknown s.store x → (mode : DataMode) → d.mode ≡ mode →
       with_data_mode m s (quiet_task n d) mode ≡ Finished t →
-      CopiedAlike s t (run_data_with (value_there env m fs i is) x (task n d) mode)
+      CopiedAlike s t x (run_data_with (value_there env m fs i is) x (task n d) mode)
   data_alike s t x n d low r data'.Passive is_mode h = nothing_copied s t x r h
   data_alike s t x n d low r (data'.Active memory offset) is_mode h =
       let filled = run_data_with (value_in m) s.store (quiet_task n d) d.mode in

@@ -5,7 +5,7 @@ use Rattle.base_lists.proofs.Common.{◌≡◌, ◌∙◌, sym, ap, refl, arith,
 use Rattle.base_lists.specs.Places.{numbers}
 use Rattle.wasm_tree_spec.specs.Prelude.{Space, Types, Functions, Tables, Memories, Globals, ElementSegments, DataSegments, Module}
 use Rattle.wasm_tree.specs.declared.module.Func as tree
-use Rattle.wasm_meaning.specs.Prelude.{Inst, imports_of, Environment, defined_count, own_count, space}
+use Rattle.wasm_meaning.specs.Prelude.{Inst, imports_of, Environment, defined_count, own_count, own_tables, own_memories, own_globals, space}
 use Rattle.run_simulation.specs.Prelude.{is_written}
 use Rattle.world_simulation.specs.Prelude.{addresses, import_places, one, IsInst}
 use Rattle.eval_snapshot_proof.specs.QuietRunAddresses.{addresses_in}
@@ -28,3 +28,8 @@ module _ (env : Environment) (m : Module) (fs : List tree.Func) (i : Inst) (is :
   rows Globals w = in_space Globals refl is.globals
   rows ElementSegments w = record { imported = []; many = omega arith; base = 0; count = length m.elems; all = is.elems }
   rows DataSegments w = record { imported = []; many = omega arith; base = 0; count = length m.datas; all = is.datas }
+
+  -- What a module defines comes after what the environment owns.
+  pub bases : ((rows Tables refl).base ≡ length (own_tables env)) × ((rows Memories refl).base ≡ length (own_memories env)) × ((rows Globals refl).base ≡ length (own_globals env))
+  unfolding rows in_space
+  bases = (refl, refl, refl)

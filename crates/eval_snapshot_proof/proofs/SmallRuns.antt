@@ -109,6 +109,20 @@ before_setting : events_evaluated setting [] [] [] (Call b [] ∷ (Call a [] ∷
 unfolding out-Instr denote.Hole.Carrier.out wrapped
 before_setting = refl
 
+-- ---- the order of constructors ----
+
+-- A module in which a sets the global to 7, b sets it to 8, and c is the global itself.
+abbrev setting_twice : Module
+setting_twice = record setting { funcs = does (num 7 ∷ i.GlobalSet 0 ∷ []) ∷ does (num 8 ∷ i.GlobalSet 0 ∷ []) ∷ [] }
+
+the_second_is_last : events_evaluated setting_twice (a ∷ b ∷ []) [] [] (Get (Named c) 0 ∷ []) 20 ≡ Linked ∷ (Got (Number 8) ∷ [])
+unfolding out-Instr denote.Hole.Carrier.out wrapped
+the_second_is_last = refl
+
+the_first_is_last : events_evaluated setting_twice (b ∷ a ∷ []) [] [] (Get (Named c) 0 ∷ []) 20 ≡ Linked ∷ (Got (Number 7) ∷ [])
+unfolding out-Instr denote.Hole.Carrier.out wrapped
+the_first_is_last = refl
+
 -- ---- a start, where none is evaluated ----
 
 -- A module whose start sets the global, in the quiet run and in an environment that offers nothing.

@@ -1,6 +1,6 @@
 -- The parts of its store that a quiet run leaves unchanged: memories keep their limits and sizes,
 -- globals keep their types, and data segments stay or are dropped.
-use Rattle.base_lists.proofs.Common.{◌≡◌, ◌∙◌, sym, ap, refl, subst, ℕ, zero, suc, List, [], ◌∷◌, length, Option, Some, None, ◌⊎◌, inl, inr, slice_get, slice_set, eqb_tells, length-set, same_Some, slice_get_within, true, false, nat_eq, set_at, set_other, overwritten_length}
+use Rattle.base_lists.proofs.Common.{◌≡◌, ◌∙◌, sym, ap, refl, subst, ℕ, zero, suc, List, [], ◌∷◌, length, Option, Some, None, ◌⊎◌, inl, inr, slice_get, length-set, same_Some, overwritten_length}
 use Rattle.base_lists.specs.Related.{EachRelated}
 use Rattle.base_lists.proofs.Related.{each_self, each_then, each_set}
 use Rattle.wasm_tree_spec.specs.Prelude.{Module}

@@ -1,9 +1,9 @@
 -- The quiet run, in whose store each index is its own address, as a run of the machine in an
 -- environment: which address an index denotes there.
-use Rattle.std.specs.Prelude.{◌≡◌, ℕ, List, [], ◌∷◌, length, Bool, false, not, ◌&&◌, Option, None, Some, slice_get, nat_lt, IsTrue}
+use Rattle.std.specs.Prelude.{◌≡◌, ℕ, ◌<◌, List, [], ◌∷◌, length, Bool, false, not, ◌&&◌, Option, None, Some, slice_get, nat_lt, IsTrue}
 use Rattle.wasm_tree_spec.specs.Prelude.{Space, Types, Functions, Tables, Memories, Globals, ElementSegments, DataSegments, Module, same_space}
 use Rattle.wasm_valid.specs.Prelude.{IsValid}
-use Rattle.wasm_meaning.specs.Prelude.{Text, Inst, Environment, is_environment, Begun, alone, insts_from, links}
+use Rattle.wasm_meaning.specs.Prelude.{Text, Inst, Store, Environment, is_environment, Begun, alone, insts_from, links, own_funcs, own_tables, own_memories, own_globals, own_store}
 use Rattle.run_simulation.specs.Prelude.{passed, StoreRelOff}
 use Rattle.world_simulation.specs.Prelude.{one}
 use Rattle.world_simulation.specs.InstantiatedStores.{is_address}
@@ -29,9 +29,18 @@ names_at m i k n a = nat_lt n (length (addresses_in (own_inst m) k)) && is_addre
 abbrev pub stands_at : Module → Inst → Space → (index address : ℕ) → Bool
 stands_at m i k n a = names_at m i k n a && not (not (same_space k Functions) && is_imported m k n)
 
+-- All of the environment's own entities, which have the first addresses of each kind, are the same
+-- in both stores: its functions, and its tables, memories and globals with their contents.
+pub record EnvironmentStays (env : Environment) (before after : Store) : Type 0 where
+  pub funcs : (a : ℕ) → a < length (own_funcs env) → slice_get after.funcs a ≡ slice_get before.funcs a
+  pub tables : (a : ℕ) → a < length (own_tables env) → slice_get after.tables a ≡ slice_get before.tables a
+  pub mems : (a : ℕ) → a < length (own_memories env) → slice_get after.mems a ≡ slice_get before.mems a
+  pub globals : (a : ℕ) → a < length (own_globals env) → slice_get after.globals a ≡ slice_get before.globals a
+
 -- `made` is what running `other` (the module, perhaps with one additional function) leaves in the
 -- environment, and it is the same as what the quiet run leaves in `t`: no segment traps, the calls
--- end, and the store is related to that of `t`, except for what is unknown.
+-- end, and the store is related to that of `t`, except for what is unknown. What the environment
+-- offers, imported or not, is as it was before the instantiation.
 pub record LeavesTheSame (env : Environment) (m other : Module) (made : Option Begun) (t : State) : Type 0 where
   pub begun : Begun
   pub is_begun : made ≡ Some begun
@@ -39,9 +48,11 @@ pub record LeavesTheSame (env : Environment) (m other : Module) (made : Option B
   pub inst : Inst
   pub is_inst : insts_from env (one other) 0 (one other) ≡ Some (inst ∷ [])
   pub related : StoreRelOff (passed (stands_at m inst) (names_at m inst) []) t.unknown t.store begun.store
+  pub stays : EnvironmentStays env (own_store env) begun.store
 
 -- In this environment the instantiation, with one additional function, the start and the calls of
--- the constructors end and leave what the quiet run leaves, except for what is unknown.
+-- the constructors end and leave what the quiet run leaves, except for what is unknown, and what the
+-- environment owns as it was.
 abbrev pub IsTheMachines : Environment → Module → (constructors kept : List Text) → State → Type 0
 IsTheMachines env m constructors kept t = LeavesTheSame env m (with_empty_func m) (evaluated_begun env m constructors kept) t
 

@@ -27,12 +27,18 @@ IsExpressible (Ref r) = IsNullOrFunction r
 abbrev pub IsByte : ℕ → Type 0
 IsByte n = n < 256
 
+abbrev pub HasFewSlots : TableType → Type 0
+HasFewSlots t = t.limits.min < 2 ^ 32
+
+abbrev pub HoldsBytes : DataSeg → Type 0
+HoldsBytes d = Every IsByte d.bytes
+
 -- What a state takes from the module is in range: tables have fewer than 2 ^ 32 slots, and data
 -- segments hold bytes. (Numbers in code need no condition: a constant is taken modulo 2 ^ 32 or 2 ^
 -- 64.)
 pub record BeginsInRange (m : Module) : Type 0 where
-  pub tables : Every (λ (t : TableType). t.limits.min < 2 ^ 32) m.tables
-  pub datas : Every (λ (d : DataSeg). Every IsByte d.bytes) m.datas
+  pub tables : Every HasFewSlots m.tables
+  pub datas : Every HoldsBytes m.datas
 
 -- The value of each global is in the range of its type.
 abbrev pub GlobalsAreInRange : Store → Type 0

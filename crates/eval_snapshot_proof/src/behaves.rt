@@ -35,9 +35,10 @@ pub fn evaluated_runs_are_determined()
 /// States that a quiet evaluation of exported functions of a valid module, at least one,
 /// corresponds to a run of the machine in each environment that links the module (WebAssembly Core
 /// 2.0, sections 4.5.4 and 4.5.5): there the instantiation, with one additional function, the start
-/// and the calls of the constructors end too, no segment traps, and the store that they leave is
-/// related to that of the quiet run, except for what is unknown (`machines`). If no constructor is
-/// named, this holds for the instantiation of the module itself and its start (`starts`).
+/// and the calls of the constructors end too, no segment traps, the store that they leave is related
+/// to that of the quiet run, except for what is unknown, and all that belongs to the environment is
+/// as it was (`machines`). If no constructor is named, this holds for the instantiation of the
+/// module itself and its start (`starts`).
 pub fn quiet_runs_are_the_machines()
     ensures machines { QuietRunsAreTheMachines }
     ensures starts { QuietStartsAreTheMachines }

@@ -2,13 +2,14 @@
 -- from them.
 use Rattle.base_lists.proofs.Common.{◌≡◌, refl, ℕ, pos, List, [], ◌∷◌, Some, None, Bool, true, false, replicate, ◌++◌, Option}
 use Rattle.wasm_tree.specs.declared.types.BlockType.TheVariants as bt
+use Rattle.wasm_tree.specs.declared.types.RefType.TheVariants.{Func as func_ref}
 use Rattle.wasm_tree_spec.specs.Prelude.{Instr, I32Store8, I32}
 use Rattle.wasm_tree.specs.declared.instr.Instr.{out-Instr}
 use Rattle.wasm_tree.specs.declared.instr.Instr.TheOpen.{Instr-F}
 use Rattle.wasm_tree.specs.declared.instr.Instr.TheVariants as i
 use Rattle.wasm_tree.specs.declared.module.ConstExpr.TheVariants as const
 use Rattle.wasm_num.specs.Operations.{W32, wrapped}
-use Rattle.wasm_meaning.specs.Prelude.{Gives, Inst, Func, Code, Val, Num, Entry, Running, Env, Bytes}
+use Rattle.wasm_meaning.specs.Prelude.{Gives, Inst, Func, Code, FuncRef, Val, Num, Entry, Running, Env, Bytes}
 use Rattle.wasm_meaning.specs.Access.{store_from, stored, little_bytes}
 use Rattle.eval_spec.specs.declared.stop.Stop.{Stop}
 use Rattle.eval_spec.specs.declared.limits.TheConstants.{MOST_TURNS, MOST_DEPTH, MOST_BLOCKS}
@@ -68,16 +69,18 @@ no_block = refl
 
 -- Function 0 is imported, 1 declares no local and 2 declares 64.
 abbrev inst : Inst
-inst = record (own_inst (after_import 0 [])) { mems = 0 ∷ []; funcs = 0 ∷ 1 ∷ 2 ∷ [] }
+inst = record (own_inst (after_import 0 [])) { tables = 0 ∷ []; mems = 0 ∷ []; funcs = 0 ∷ 1 ∷ 2 ∷ [] }
 
 abbrev with_locals : ℕ → Func
 with_locals n = Code (record { params = []; results = [] }) inst (replicate n I32) []
 
--- A state with a memory of 128 bytes, one turn left and these blocks written.
+-- A state with a table of functions 1 and 2, a memory of 128 bytes, one turn left and these blocks
+-- written.
 abbrev state : List Bool → State
 state written = record {
   store = record (imported_store (after_import 0 [])) {
     funcs = (imported_store (after_import 0 [])).funcs ++ with_locals 0 ∷ with_locals 64 ∷ [];
+    tables = record { ty = func_ref; most = None; slots = FuncRef (Some 1) ∷ FuncRef (Some 2) ∷ [] } ∷ [];
     mems = record { most = None; pages = 1; bytes = replicate 128 0 } ∷ [];
   };
   unknown = unknown_at_first (does []);
@@ -147,6 +150,19 @@ the_last_frame = refl
 turns_before_depth : stop (after_import 0 []) (state []) (frame 999 [] (i.Call 2 ∷ []) ∷ []) ≡ Some why.Steps
 unfolding out-Instr denote.Hole.Carrier.out
 turns_before_depth = refl
+
+-- A call through a table opens a frame too, which takes the turns of its locals.
+a_frame_through_a_table_too_many : stop (after_import 0 []) (state []) (frame 999 (Num W32 0 ∷ []) (i.CallIndirect 0 0 ∷ []) ∷ []) ≡ Some why.Depth
+unfolding out-Instr denote.Hole.Carrier.out
+a_frame_through_a_table_too_many = refl
+
+the_last_frame_through_a_table : stop (after_import 0 []) (state []) (frame 998 (Num W32 0 ∷ []) (i.CallIndirect 0 0 ∷ []) ∷ []) ≡ None
+unfolding out-Instr denote.Hole.Carrier.out
+the_last_frame_through_a_table = refl
+
+a_frame_through_a_table_without_turns : stop (after_import 0 []) (state []) (frame 0 (Num W32 1 ∷ []) (i.CallIndirect 0 0 ∷ []) ∷ []) ≡ Some why.Steps
+unfolding out-Instr denote.Hole.Carrier.out
+a_frame_through_a_table_without_turns = refl
 
 -- The depth is tested after a trap, here of an `if` that has no number to test.
 a_trap_before_depth : stop (after_import 0 []) (state []) (frame 999 [] (i.If bt.Empty [] [] ∷ []) ∷ []) ≡ Some why.Trap

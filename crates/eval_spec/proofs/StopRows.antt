@@ -57,6 +57,23 @@ a_segment_is_dropped : stops (with_slots [] (does (i.ElemDrop 0 ∷ []))) ≡ So
 unfolding out-Instr denote.Hole.Carrier.out wrapped
 a_segment_is_dropped = refl
 
+-- The other instructions that change a table.
+a_table_grows : stops (with_slots [] (does (i.RefNull func_ref ∷ num 1 ∷ i.TableGrow 0 ∷ i.Drop ∷ []))) ≡ Some why.TableWrite
+unfolding out-Instr denote.Hole.Carrier.out wrapped
+a_table_grows = refl
+
+slots_are_filled : stops (with_slots [] (does (num 0 ∷ i.RefNull func_ref ∷ num 1 ∷ i.TableFill 0 ∷ []))) ≡ Some why.TableWrite
+unfolding out-Instr denote.Hole.Carrier.out wrapped
+slots_are_filled = refl
+
+slots_are_copied : stops (with_slots [] (does (num 0 ∷ num 1 ∷ num 1 ∷ i.TableCopy 0 0 ∷ []))) ≡ Some why.TableWrite
+unfolding out-Instr denote.Hole.Carrier.out wrapped
+slots_are_copied = refl
+
+items_are_copied : stops (with_slots [] (does (num 0 ∷ num 0 ∷ num 0 ∷ i.TableInit 0 0 ∷ []))) ≡ Some why.TableWrite
+unfolding out-Instr denote.Hole.Carrier.out wrapped
+items_are_copied = refl
+
 -- A write to a table is tested before the use of an unknown place.
 a_slot_of_an_imported_table_is_set : stops (imports (im.Table three_slots) (does (num 0 ∷ i.RefNull func_ref ∷ i.TableSet 0 ∷ []))) ≡ Some why.TableWrite
 unfolding out-Instr denote.Hole.Carrier.out wrapped
@@ -143,6 +160,11 @@ data_goes_to_an_imported_memory : stops (record (imports (im.Memory page) (does 
 unfolding wrapped
 data_goes_to_an_imported_memory = refl
 
+-- An imported memory holds nothing, but `Unknown` is tested before the bounds of the segment.
+a_byte_goes_to_an_imported_memory : stops (record (imports (im.Memory page) (does [])) { datas = data_at (const.I32 (pos 0)) (1 ∷ []) ∷ [] }) ≡ Some why.Unknown
+unfolding wrapped
+a_byte_goes_to_an_imported_memory = refl
+
 items_go_to_an_imported_table : stops (record (imports (im.Table three_slots) (with_slots [] (does []))) { tables = [] }) ≡ Some why.Unknown
 unfolding wrapped
 items_go_to_an_imported_table = refl
@@ -165,6 +187,12 @@ items_past_the_end : stops (with_slots (const.Func 0 ∷ const.Func 0 ∷ const.
 unfolding wrapped
 items_past_the_end = refl
 
+-- Element segments are copied before data segments, here one with items past the end before one whose
+-- offset is unknown.
+items_before_data : stops (record (with_page (imports (im.Global fixed_i32) (with_slots (const.Func 0 ∷ const.Func 0 ∷ const.Func 0 ∷ []) (does [])))) { datas = data_at (const.Global 0) [] ∷ [] }) ≡ Some why.Trap
+unfolding wrapped
+items_before_data = refl
+
 a_start_that_traps : stops (record (does (i.Unreachable ∷ [])) { start = Some 0 }) ≡ Some why.Trap
 unfolding out-Instr denote.Hole.Carrier.out
 a_start_that_traps = refl
@@ -181,6 +209,10 @@ a_result = refl
 
 a_parameter : stops (record empty { funcs = record { ty = 2; locals = []; body = [] } ∷ [] }) ≡ Some why.Signature
 a_parameter = refl
+
+-- The signature of a constructor is tested before the turns of its locals.
+a_parameter_without_turns : stops_within 0 (record empty { funcs = record { ty = 2; locals = record { count = 64; ty = I32 } ∷ []; body = [] } ∷ [] }) ≡ Some why.Signature
+a_parameter_without_turns = refl
 
 -- The signature of a constructor is tested before `Import`.
 an_imported_result : stopped_by (after_import 1 []) (0 ∷ []) ≡ Some why.Signature

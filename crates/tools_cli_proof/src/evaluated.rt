@@ -30,9 +30,9 @@ pub fn evaluated_modules_are_valid()
 /// each environment that links the module, for a valid module whose data segments hold bytes and
 /// whose tables have fewer than 2^32 slots (`behaves`). In each of these environments the
 /// instantiation, the start and the evaluated constructors come to their ends, as they did in the
-/// evaluation, and leave what it left, except for what is unknown; if no constructor is evaluated,
-/// so do the instantiation and the start, unless something stops them (`machines`). No listed name
-/// may be missing.
+/// evaluation, and leave what it left, except for what is unknown, and all that belongs to the
+/// environment as it was; if no constructor is evaluated, so do the instantiation and the start,
+/// unless something stops them (`machines`). No listed name may be missing.
 pub fn evaluated_modules_behave()
     ensures behaves { TreesBehave }
     ensures machines { AreEvaluatedAsByTheMachine }

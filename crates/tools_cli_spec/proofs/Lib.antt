@@ -1,2 +1,3 @@
 mod FaithfulRows
 mod MadeRows
+mod MachineRows

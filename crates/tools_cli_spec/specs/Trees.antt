@@ -45,8 +45,9 @@ TreesBehave = (m : Module) (names kept : List Text) → first_missing m names �
 -- The evaluation of these constructors comes to its end and is the machine's run: in each
 -- environment that links the module, the instantiation, the start and the calls come to their ends
 -- too, and leave what the evaluation left, except for what is unknown (imported tables, memories
--- and globals, and what was read of them). For no constructor, this holds of the instantiation and
--- the start, if nothing stops them.
+-- and globals, and what was read of them). Imported tables, memories and globals, and all else that
+-- belongs to the environment, are left as they were. For no constructor, this holds of the
+-- instantiation and the start, if nothing stops them.
 abbrev pub EvaluatedAsByTheMachine : Module → (evaluated kept : List Text) → Type 0
 EvaluatedAsByTheMachine m [] kept =
     (end : State) → evaluated m [] ≡ Finished end → (env : Environment) → IsTrue (is_environment env) → IsTrue (links env (alone m)) → StartIsTheMachines env m end

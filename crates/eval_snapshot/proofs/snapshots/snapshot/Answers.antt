@@ -5,6 +5,7 @@ use Rattle.module_limits.specs.Counts.{over_limit}
 use Rattle.eval_machine.specs.Kept.{state_in}
 use Rattle.eval_snapshot_spec.specs.Snapshot.{snapshot}
 use Rattle.eval_snapshot_proof.specs.SuitableStates.{Suits}
+use Rattle.eval_snapshot_proof.specs.Ranges.{BeginsInRange}
 use Rattle.eval_snapshot_proof.specs.EquivalenceLaws.{ObservationallyEquivalent}
 use Rattle.eval_snapshot.specs.Outcome.{outcome}
 use Rattle.eval_snapshot.proofs.MemoryBytes.{no_bytes}
@@ -47,7 +48,7 @@ returns-in-Some-clause-fault c =
     inr (ap (λ o. outcome o (snapshot m (state_in m k) evaluated kept)) (ap over_limit (sym made) ∙ sym c.in-Some.ensures))
 
 pub returns-in-None-clause-behaves : goal.returns-in-None-clause-behaves
-returns-in-None-clause-behaves c begins =
+returns-in-None-clause-behaves c =
     let k = c.args.machine.now in
     let m = c.args.input in
     let s = state_in m k in
@@ -55,4 +56,5 @@ returns-in-None-clause-behaves c begins =
     let kept = c.args.kept.now in
     let made = of_same m c.into_module.result c.in_ok-made.made k evaluated c.as_slice.result.now kept c.as_slice-2.result.now c.in_ok-made.ensures.tree c.into_module.ensures.value c.as_slice.ensures c.as_slice-2.ensures in
     let valid = subst IsValid c.into_module.ensures.value c.into_module.ensures.valid in
+    let begins = subst BeginsInRange c.module.ensures.value c.begins_in_range.ensures in
     subst (ObservationallyEquivalent m evaluated kept) (sym (c.known.ensures ∙ made)) (c.snapshot_equivalent.ensures.equivalent m evaluated kept s valid begins c.requires.after)
