@@ -65,12 +65,11 @@ impl Pool {
     }
 
     /// Reserves memory until at least `count` blocks are spare, without touching it. If memory runs
-    /// out, the live and the spare blocks are unchanged, and only the bound on the numbers of
-    /// blocks (`numbers`) may have risen.
+    /// out, the pool is as it was.
     pub fn reserve(&mut self, count: usize) -> Result<(), NoMemory>
         ensures slots { self.new.slots ≡ self.old.slots }
         ensures ok { OnOk result (self.new.spare ≡ max self.old.spare count) }
-        ensures err { OnErr result (self.new.spare ≡ self.old.spare) }
+        ensures err { OnErr result (self.new ≡ self.old) }
         ensures numbers { self.old.numbers ≤ self.new.numbers }
     {
         if count <= self.spare() {
