@@ -1,9 +1,11 @@
 -- The text of a refusal.
 use Rattle.tools_cli_spec.specs.CommandLine.{Text}
-use Rattle.tools_cli_spec.specs.Texts.{invalid_text, import_mismatch, import_cycle, limits_clash, global_cycle, too_many_memories, export_conflict, not_module, malformed, malformed_body, unsupported, unsupported_body, over_limit, too_many_parts, too_many, not_json, wrong_shape, node_twice}
+use Rattle.tools_cli_spec.specs.Texts.{invalid_text, import_mismatch, import_cycle, limits_clash, global_cycle, too_many_memories, export_conflict, not_module, malformed}
+use Rattle.tools_cli_spec.specs.Texts.{malformed_body, unsupported, unsupported_body, over_limit, too_many_parts, too_many, not_json, wrong_shape, node_twice}
 use Rattle.tools_cli_spec.specs.Texts.{unknown_node, no_function, several_functions, kept_and_split, namespace_taken, prefix_taken, no_exported_function}
 use Rattle.tools_cli_decide.specs.declared.refusal.Refusal.{Refusal}
-use Rattle.tools_cli_decide.specs.declared.refusal.Refusal.TheVariants.{NotModule, Malformed, MalformedBody, Unsupported, UnsupportedBody, Limit, Invalid, TooManyParts, ImportMismatch, ImportCycle, LimitsClash, TooManyMemories, GlobalCycle, ExportConflict, TooMany, GraphText, GraphShape}
+use Rattle.tools_cli_decide.specs.declared.refusal.Refusal.TheVariants.{NotModule, Malformed, MalformedBody, Unsupported, UnsupportedBody, Limit, Invalid, TooManyParts, ImportMismatch}
+use Rattle.tools_cli_decide.specs.declared.refusal.Refusal.TheVariants.{ImportCycle, LimitsClash, TooManyMemories, GlobalCycle, ExportConflict, TooMany, GraphText, GraphShape}
 use Rattle.tools_cli_decide.specs.declared.refusal.Refusal.TheVariants.{NodeTwice, UnknownNode, NoSuchFunction, AmbiguousFunction, KeptAndSplit, NamespaceTaken, PrefixTaken, NoSuchExport}
 
 -- The text of a refusal.

@@ -1,7 +1,8 @@
 // The task that the arguments of a command line ask for.
 ghost use Rattle.std.specs.Prelude.{◌≡◌, ◌<◌, ◌≤◌, ◌^◌, true, map, option_map, option_and_then, string_bytes, IfOk, IfSome};
 ghost use Rattle.tools_cli_words.specs.Arguments.{listed_words};
-ghost use Rattle.tools_cli_spec.specs.CommandLine.{task_of, task_of_arguments, tool_named, tool_in, said_to_tool, merge_of_arguments, metadce_of_arguments, split_of_arguments, outputs_said, words_said};
+ghost use Rattle.tools_cli_spec.specs.CommandLine.{task_of, task_of_arguments, tool_named, tool_in, said_to_tool};
+ghost use Rattle.tools_cli_spec.specs.CommandLine.{merge_of_arguments, metadce_of_arguments, split_of_arguments, outputs_said, words_said};
 ghost use Rattle.tools_cli_spec.specs.CommandLine.{names_said, ctor_eval_of_arguments, words_apart, words_if_any, sample_of_arguments, seed_in, count_in, sources_of, some_apart, are_apart, flag_mode};
 ghost use Rattle.tools_cli_spec.specs.CommandLine.{merge_mode, usage_line};
 ghost use Rattle.tools_cli_decide.specs.Command.{task_value, outputs_value, arguments_value, names_of};

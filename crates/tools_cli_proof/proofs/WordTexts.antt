@@ -1,6 +1,7 @@
 -- The properties of each task: its names are UTF-8 if the words that ask for it are, no two of its
 -- outputs have the same name, and a sample has at least one function and not too many.
-use Rattle.base_lists.proofs.Common.{IsUtf8-from_ascii, ◌≡◌, ◌∙◌, refl, ap, subst, Bool, true, false, cond, ℕ, suc, ◌+◌, ◌<◌, ◌≤◌, List, ◌∷◌, ◌++◌, drop, length, get_or, add-one, Option, Some, None, IfSome, option_map, option_and_then, arith, ◌==◌, IsUtf8, codes, nat_lt, IsAscii, and_parts, IsAscii-cons}
+use Rattle.base_lists.proofs.Common.{IsUtf8-from_ascii, ◌≡◌, ◌∙◌, refl, ap, subst, Bool, true, false, cond, ℕ, suc, ◌+◌, ◌<◌, ◌≤◌, List, ◌∷◌, ◌++◌}
+use Rattle.base_lists.proofs.Common.{drop, length, get_or, add-one, Option, Some, None, IfSome, option_map, option_and_then, arith, ◌==◌, IsUtf8, codes, nat_lt, IsAscii, and_parts, IsAscii-cons}
 use Rattle.base_lists.proofs.Common.{IsAscii-nil, option_or, list_any, list_all, nat_tests}
 use Rattle.std.specs.Prelude.{[], bytes_eq, unwrap_or}
 use Rattle.std.proofs.lemmas.Str.{IsUtf8-drop, IsCharBoundary-after_ascii}

@@ -4,7 +4,8 @@ use Rattle.std.specs.FinMap.{insert, get-insert}
 use Rattle.std.specs.Cmp.{eq_by_cmp_equiv}
 use Rattle.std.proofs.lemmas.Cmp.{nat_list_cmp_total}
 use Rattle.tool_io.specs.FilesAndSinks.{FileContents, Becomes}
-use Rattle.tools_cli_spec.specs.Prelude.{Text, Task, task_of, NamedFile, made, AreWrittenInPart, written_names, Job, Usage, Refused, Done, HasJob, no_task, asked, TaskJob, not_begun, missing, too_long, all_read, InputsJob, not_loaded, decided, Decision, Refuses, Makes, job_of, is_within, spelled_output, HostState}
+use Rattle.tools_cli_spec.specs.Prelude.{Text, Task, task_of, NamedFile, made, AreWrittenInPart, written_names, Job, Usage, Refused, Done, HasJob, no_task, asked, TaskJob}
+use Rattle.tools_cli_spec.specs.Prelude.{not_begun, missing, too_long, all_read, InputsJob, not_loaded, decided, Decision, Refuses, Makes, job_of, is_within, spelled_output, HostState}
 use Rattle.tools_cli_spec.specs.Job.{Missing}
 use Rattle.tools_cli_spec.specs.Texts.{too_many}
 use Rattle.wasm_tree.specs.declared.which.Which.TheVariants.{OutputBytes}

@@ -62,7 +62,8 @@ ChangesInFull words old new = (new ≡ old) ⊎ ((writes : List NamedFile) × (l
 abbrev pub PrintsInFull : List Text → FileContents → Option FileContents → Text → Text → Type 0
 PrintsInFull words old new before after =
     (after ≡ before)
-    ⊎ ((writes : List NamedFile) × (lines : Text) × (files : FileContents) × (count : ℕ) × TaskIsDone words old writes lines × (new ≡ Some files) × AllMade writes old files × (after ≡ before ++ take count lines))
+    ⊎ ((writes : List NamedFile) × (lines : Text) × (files : FileContents) × (count : ℕ) × TaskIsDone words old writes lines
+    × (new ≡ Some files) × AllMade writes old files × (after ≡ before ++ take count lines))
 
 -- A count of faults is greater, or the greatest that it can be.
 abbrev pub HasRisen : ℕ → ℕ → Type 0
@@ -99,7 +100,8 @@ pub record WriteFails (words : List Text) (old new : HostState) (err err' : Opti
 -- done and all its writes are made.
 pub record PrintFails (words : List Text) (old new : HostState) (err err' : Option Text) : Type 0 where
   pub risen : HasRisen old.out_faults new.out_faults
-  pub job : (files : FileContents) → old.files ≡ Some files → (writes : List NamedFile) × (lines : Text) × (after : FileContents) × TaskIsDone words files writes lines × (new.files ≡ Some after) × AllMade writes files after
+  pub job : (files : FileContents) → old.files ≡ Some files → (writes : List NamedFile) × (lines : Text) × (after : FileContents) ×
+      TaskIsDone words files writes lines × (new.files ≡ Some after) × AllMade writes files after
   pub printed : Gained (codes "binkit: cannot write standard output\n") err err'
 
 -- `HasOutsideCause`: standard error could not be written, or a line there says what else could not

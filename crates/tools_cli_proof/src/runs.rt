@@ -32,7 +32,8 @@ pub fn runs_print_behind_all_writes()
 /// States what `outside` of `run` says: standard error could not be written, or a line there says
 /// which file could not be read or written, or that standard output could not be.
 pub fn outside_runs_have_causes()
-    ensures { (words : List (List ℕ)) (old new : HostState) (err err_after : Option (List ℕ)) (before now : ℕ) → HasOutsideCause words old new err err_after before now → OutsideInFull words old new err err_after before now }
+    ensures { (words : List (List ℕ)) (old new : HostState) (err err_after : Option (List ℕ)) (before now : ℕ) →
+        HasOutsideCause words old new err err_after before now → OutsideInFull words old new err err_after before now }
 {}
 
 /// States what `complete` of `run` says of the status: it is `Usage` if the words ask for no task,

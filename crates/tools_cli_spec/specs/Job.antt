@@ -4,7 +4,8 @@ use Rattle.std.specs.FinMap.{get}
 use Rattle.std.specs.List.{list_all, cons_option}
 use Rattle.tool_io.specs.FilesAndSinks.{FileContents}
 use Rattle.wasm_bytes.specs.Prelude.{IsBytes}
-use Rattle.tools_cli_spec.specs.CommandLine.{Text, Source, MergeTask, MetadceTask, SplitTask, CtorEvalTask, SampleTask, Task, Merge, Metadce, Split, CtorEval, Sample, task_of, source_files, many_of, modules_of, inputs_of}
+use Rattle.tools_cli_spec.specs.CommandLine.{Text, Source, MergeTask, MetadceTask, SplitTask, CtorEvalTask, SampleTask, Task, Merge}
+use Rattle.tools_cli_spec.specs.CommandLine.{Metadce, Split, CtorEval, Sample, task_of, source_files, many_of, modules_of, inputs_of}
 use Rattle.wasm_meaning.specs.Prelude.{Part}
 use Rattle.dce_graph.specs.declared.graph.Graph.{Graph}
 use Rattle.dce_graph.specs.declared.marks.Reached.{Reached}
