@@ -1,2 +1,6 @@
 mod FaithfulRows
 mod MadeRows
+mod ClaimRows
+mod LoadRows
+mod RunRows
+mod TextRows
