@@ -40,7 +40,7 @@ abbrev pub nothing : FuncType
 nothing = record { params = []; results = [] }
 
 -- The environment offers one function, with the name `f` of the module `own`.
-abbrev offering : Environment
+abbrev pub offering : Environment
 offering = record { pair = (own, f); funcs = nothing ∷ []; table = None; memory = None; global = None } ∷ []
 
 offering_is_one : IsTrue (is_environment offering)
@@ -183,7 +183,7 @@ both body = record (with body) {
 
 -- Here and below `f` has the first body in the modules that are read and the second in those that
 -- are written.
-abbrev of_merge : (read written : List Instr) → Option Equivalence
+abbrev pub of_merge : (read written : List Instr) → Option Equivalence
 of_merge read written = equivalence (Merge merging) tt (with read ∷ calling ∷ []) (both written ∷ [])
 
 merge_shows : IsClaimed (of_merge asking asking) (λ claim. Shows claim (gives 5 (Returned []) 7) (gives 5 (Returned []) 7))
@@ -211,7 +211,7 @@ reached = record { nodes = true ∷ []; exports = true ∷ false ∷ []; imports
 abbrev pub without_a : List Instr → Module
 without_a body = record (with body) { funcs = func 0 body ∷ []; exports = export f (ex.Func 1) ∷ [] }
 
-abbrev of_metadce : (read written : List Instr) → Option Equivalence
+abbrev pub of_metadce : (read written : List Instr) → Option Equivalence
 of_metadce read written = equivalence (Metadce sweeping) reached (with read ∷ []) (without_a written ∷ [])
 
 metadce_shows : IsClaimed (of_metadce asking asking) (λ claim. Shows claim (gives 5 BadMove 5) (gives 5 BadMove 5))
@@ -262,7 +262,7 @@ moving body = record empty {
   elems = keeping.elems;
 }
 
-abbrev of_split : (read written : List Instr) → Option Equivalence
+abbrev pub of_split : (read written : List Instr) → Option Equivalence
 of_split read written = equivalence (Split splitting) [] (with read ∷ []) (moving written ∷ keeping ∷ [])
 
 pub f_moves : (words_plan splitting (with asking) []).moved ≡ 1 ∷ []
@@ -292,10 +292,10 @@ evaluating = record { file = codes "in.wasm"; ctors = a ∷ []; kept = []; outpu
 abbrev pub set_to_7 : List Instr → Module
 set_to_7 body = record (with body) { globals = global 7 ∷ []; exports = export f (ex.Func 1) ∷ [] }
 
-abbrev of_eval : (read written : List Instr) → Option Equivalence
+abbrev pub of_eval : (read written : List Instr) → Option Equivalence
 of_eval read written = equivalence (CtorEval evaluating) tt (with read ∷ []) (set_to_7 written ∷ [])
 
-a_is_evaluated : (body : List Instr) → evaluated_names evaluating (with body) ≡ a ∷ []
+pub a_is_evaluated : (body : List Instr) → evaluated_names evaluating (with body) ≡ a ∷ []
 unfolding out-Instr denote.Hole.Carrier.out wrapped
 a_is_evaluated body = search (rules, the_lemmas)
 
@@ -353,7 +353,7 @@ they_are_drawn = search (rules, the_lemmas)
 abbrev pub sampled : List Instr → Module
 sampled body = record unary { funcs = adding ∷ func 0 body ∷ []; exports = export (codes "f0") (ex.Func 0) ∷ export (codes "g0") (ex.Func 1) ∷ [] }
 
-abbrev of_sample : (written : List Instr) → Option Equivalence
+abbrev pub of_sample : (written : List Instr) → Option Equivalence
 of_sample written = equivalence (Sample sampling) tt [] (sampled written ∷ [])
 
 -- The claim of a sample has each property that the claim with the drawn modules has.

@@ -1,3 +1,7 @@
 mod FaithfulRows
 mod MadeRows
 mod MachineRows
+mod ClaimRows
+mod LoadRows
+mod RunRows
+mod TextRows
