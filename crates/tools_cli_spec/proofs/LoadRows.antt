@@ -15,24 +15,27 @@ use Rattle.wasm_tree.specs.declared.module.ImportDesc.TheVariants as im
 use Rattle.wasm_tree.specs.declared.types.RefType.TheVariants.{Func as func_ref}
 use Rattle.tools_cli_spec.proofs.FaithfulRows.{a, f, asking, with, import, func, splitting, keeping, moving, offering, f_moves}
 
+abbrev added_under : LoaderWorld → Inst → Module → Store → Option Added
+added_under w i m s = secondary_added w.import_namespace w.primary i m s
+
 -- Where a module is not added to the store, or traps when it is added, it cannot be loaded.
-not_linked : (w : LoaderWorld) (q : LoaderRun) (j : ℕ) (s : Store) (i : Inst) (l : Secondary) → q.inst ≡ Some i → slice_get w.secondaries j ≡ Some l → secondary_added w i l.«module» s ≡ None → CanBeLoaded w q j s → ⊥
+not_linked : (w : LoaderWorld) (q : LoaderRun) (j : ℕ) (s : Store) (i : Inst) (l : Secondary) → q.inst ≡ Some i → slice_get w.secondaries j ≡ Some l → added_under w i l.«module» s ≡ None → CanBeLoaded w q j s → ⊥
 not_linked w q j s i l inst found none c =
     let both : Some i ≡ Some c.inst = sym inst ∙ c.is_inst in
     let same : i ≡ c.inst = cc in
     let two : Some l ≡ Some c.loads = sym found ∙ c.is_secondary in
     let one : l ≡ c.loads = cc in
     let links = c.links in
-    let here : secondary_added w c.inst c.loads.«module» s ≡ None = subst (λ (x : Inst). secondary_added w x c.loads.«module» s ≡ None) same (subst (λ (x : Secondary). secondary_added w i x.«module» s ≡ None) one none) in
+    let here : added_under w c.inst c.loads.«module» s ≡ None = subst (λ (x : Inst). added_under w x c.loads.«module» s ≡ None) same (subst (λ (x : Secondary). added_under w i x.«module» s ≡ None) one none) in
     cc
 
-traps : (w : LoaderWorld) (q : LoaderRun) (j : ℕ) (s : Store) (i : Inst) (l : Secondary) (d : Added) → q.inst ≡ Some i → slice_get w.secondaries j ≡ Some l → secondary_added w i l.«module» s ≡ Some d → d.filled.trapped ≡ true → CanBeLoaded w q j s → ⊥
+traps : (w : LoaderWorld) (q : LoaderRun) (j : ℕ) (s : Store) (i : Inst) (l : Secondary) (d : Added) → q.inst ≡ Some i → slice_get w.secondaries j ≡ Some l → added_under w i l.«module» s ≡ Some d → d.filled.trapped ≡ true → CanBeLoaded w q j s → ⊥
 traps w q j s i l d inst found some trapped c =
     let both : Some i ≡ Some c.inst = sym inst ∙ c.is_inst in
     let same : i ≡ c.inst = cc in
     let two : Some l ≡ Some c.loads = sym found ∙ c.is_secondary in
     let one : l ≡ c.loads = cc in
-    let here : secondary_added w c.inst c.loads.«module» s ≡ Some d = subst (λ (x : Inst). secondary_added w x c.loads.«module» s ≡ Some d) same (subst (λ (x : Secondary). secondary_added w i x.«module» s ≡ Some d) one some) in
+    let here : added_under w c.inst c.loads.«module» s ≡ Some d = subst (λ (x : Inst). added_under w x c.loads.«module» s ≡ Some d) same (subst (λ (x : Secondary). added_under w i x.«module» s ≡ Some d) one some) in
     let three : Some d ≡ Some c.added = sym here ∙ c.links in
     let last : d ≡ c.added = cc in
     let fills = c.fills in
