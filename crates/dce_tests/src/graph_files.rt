@@ -57,6 +57,15 @@ const REFUSED: &[Row] = &[
         b"[{\"name\":\"a\",\"reaches\":[\"a\",\"d\"]},{\"name\":\"b\",\"reaches\":[\"c\"]}]",
         "unknown d",
     ),
+    (
+        b"[{\"name\":\"a\"},{\"name\":\"b\"},{\"name\":\"b\"},{\"name\":\"a\"}]",
+        "twice b",
+    ),
+    (b"[{\"name\":\"a\"},7,{}]", "shape 1"),
+    (
+        b"[{\"name\":\"a\",\"reaches\":[\"a\",\"c\",\"b\"]}]",
+        "unknown c",
+    ),
 ];
 
 fn told(alloc: Global, fault: &GraphFault) -> Result<String, Fail> {

@@ -170,10 +170,10 @@ fn imports_of_one_module_and_field_reach_the_same_nodes(rt: HostRuntime) -> Resu
         [{\"name\":\"a\",\"root\":true,\"export\":\"a\"},\
         {\"name\":\"b\",\"root\":true,\"export\":\"b\"},\
         {\"name\":\"c\",\"import\":[\"env\",\"cb\"]},{\"name\":\"d\",\"import\":[\"env\",\"cc\"]},\
-        {\"name\":\"e\",\"import\":[\"env\",\"cb\"]}]";
+        {\"name\":\"e\",\"import\":[\"env\",\"cb\"]},{\"name\":\"f\",\"import\":[\"other\",\"cb\"]}]";
     assert_eq!(rt;
         shown(rt.alloc(), IMPORTED_TWICE, text)?.as_str(),
-        "+++-+ ++ ++ ++ "
+        "+++-+- ++ ++ ++ "
     );
     Ok(())
 }
