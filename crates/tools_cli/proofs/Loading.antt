@@ -1,4 +1,7 @@
 -- Files that are loaded one after another.
+use Rattle.tools_cli_decide.specs.Prelude.{StopsWith, refusal_text}
+use Rattle.tools_cli_decide.specs.declared.stop.Stop.{Stop}
+use Rattle.tools_cli_decide.specs.declared.stop.Stop.TheVariants as stop
 use Rattle.base_lists.proofs.Common.{◌≡◌, ◌∙◌, sym, refl, ap, subst, ◌⊎◌, inl, inr, Bool, false, Some, Result, Ok, Err, ℕ, zero, suc, ◌+◌, ◌<◌, ◌≤◌, ◌^◌, List, [], ◌∷◌, ◌++◌, append-nil, add-one, drop, drop-cons, length, get_or, arith, drop_all}
 use Rattle.base_lists.specs.Every.{Every}
 use Rattle.tools_cli_spec.specs.Prelude.{Text, LoadsFile, faulty, invalid, loaded, IsReadAs, IsAccepted, AllLoad, OneFails, most_input, NamedFile, fault_text}
@@ -10,6 +13,15 @@ use Rattle.wasm_read_spec.specs.Prelude.{read_fault}
 use Rattle.tools_cli.specs.Causes.{InvalidText}
 use Rattle.tools_cli_decide.specs.declared.input.Input.{Input}
 use Rattle.tools_cli.proofs.Limits.{read_within}
+
+-- A property of the text of a stop implies a weaker one.
+pub stops_weaker : (P Q : Text → Type 0) → ((text : Text) → P text → Q text) → (s : Stop) → StopsWith P s → StopsWith Q s
+stops_weaker P Q f (stop.Refused refusal) h = f (refusal_text refusal) h
+stops_weaker P Q f stop.NoMemory h = tt
+stops_weaker P Q f (stop.Usage line) h = absurd h
+stops_weaker P Q f (stop.CannotRead r) h = absurd h
+stops_weaker P Q f (stop.CannotWrite r) h = absurd h
+stops_weaker P Q f stop.CannotPrint h = absurd h
 
 -- ---- one file more ----
 

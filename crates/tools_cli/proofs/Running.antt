@@ -2,6 +2,9 @@
 use Rattle.base_lists.proofs.Common.{◌≡◌, ◌∙◌, arith, sym, refl, ap, subst, ℕ, ◌≤◌, List, [], ◌∷◌, ◌++◌, length, map, drop, Option, Some, None, IfSome, Contains, OnOk, Result, Ok, Err, string_bytes, inl, inr, ◌⊎◌, get, map_twice}
 use Rattle.tool_io.specs.FilesAndSinks.{FileContents, Becomes, AppendsPrefix, Rose}
 use Rattle.tools_cli.proofs.Changes.{becomes_itself, becomes_weaker, becomes_same}
+use Rattle.base_lists.specs.Every.{Every}
+use Rattle.wasm_bytes.specs.Prelude.{IsBytes}
+use Rattle.tools_cli_spec.specs.Job.{InputsAreBytes, InputsHoldBytes}
 use Rattle.tools_cli_spec.specs.Prelude.{Text, Task, task_of, modules_of, texts_of, inputs_of, NamedFile, made, AreWrittenInPart, written_names, Job, Usage, Refused, Done, Whole, TooLong, gathered, most_input, InputsJob, TaskJob, refused_before, not_begun, too_long, all_read, HasJob, no_task, asked}
 use Rattle.tools_cli_decide.specs.Prelude.{refusal_text, StopsWith}
 use Rattle.tools_cli.specs.Causes.{PrintsAsAllowed}
@@ -12,7 +15,7 @@ use Rattle.tools_cli.specs.Reports.{line_of, Reports}
 use Rattle.tools_cli.specs.Causes.{StopsGathering, StopsPreparing, StopsFinishing, AreOutputs, AllWritten, PrintsAfter}
 use Rattle.tools_cli_spec.specs.Turns.{MayHold}
 use Rattle.tools_cli.specs.Work.{IsUsage, StopsWork}
-use Rattle.tools_cli_spec.specs.Run.{PrintsNothing, JobIsDone, ChangesByTheJob, PrintsForTheJob, EndsDone, EndsRefused, Gains, IsSame, HasOutsideCause, HasStatus, SomeRose}
+use Rattle.tools_cli_spec.specs.Run.{PrintsNothing, JobIsDone, ChangesByTheJob, PrintsForTheJob, EndsDone, EndsRefused, Gains, IsSame, HasOutsideCause, HasStatus, StatusOfJob, SomeRose}
 use Rattle.tools_cli_spec.specs.declared.status.Status.{Status}
 use Rattle.tools_cli_spec.specs.declared.status.Status.TheVariants as status
 use Rattle.tools_cli_decide.specs.declared.stop.Stop.{Stop}
@@ -36,24 +39,51 @@ pub decided_at : (held : Option FileContents) (t : Task) (inputs : List NamedFil
 decided_at None t inputs job begun g d = tt
 decided_at (Some a) t inputs job begun g d = all_read inputs job begun g d
 
+-- The inputs of a task are the files that were gathered.
+inputs_known : (t : Task) (a : FileContents) (inputs : List NamedFile) → gathered (inputs_of t) a most_input ≡ Whole inputs → Every (λ (e : NamedFile). IsBytes e.1) inputs → InputsAreBytes t a
+inputs_known t a inputs g are others begun h =
+    let both : Whole inputs ≡ Whole others = sym g ∙ h in
+    let same : inputs ≡ others = cc in
+    subst (λ (es : List NamedFile). Every (λ (e : NamedFile). IsBytes e.1) es) same are
+
+pub inputs_at : (held : Option FileContents) (t : Task) (inputs : List NamedFile) → IfSome held (λ a. gathered (inputs_of t) a most_input ≡ Whole inputs) → Every (λ (e : NamedFile). IsBytes e.1) inputs → IfSome held (InputsAreBytes t)
+inputs_at None t inputs g are = tt
+inputs_at (Some a) t inputs g are = inputs_known t a inputs g are
+
+-- The words ask for one task, so its inputs are those of the words.
+inputs_of_words : (words : List Text) (t : Task) (a : FileContents) → task_of words ≡ Some t → InputsAreBytes t a → InputsHoldBytes words a
+inputs_of_words words t a e are other asks =
+    let both : Some t ≡ Some other = sym e ∙ asks in
+    let same : t ≡ other = cc in
+    subst (λ (x : Task). InputsAreBytes x a) same are
+
+pub words_at : (held : Option FileContents) (words : List Text) (t : Task) → task_of words ≡ Some t → IfSome held (InputsAreBytes t) → IfSome held (InputsHoldBytes words)
+words_at None words t e are = tt
+words_at (Some a) words t e are = inputs_of_words words t a e are
+
 -- The job of a task with a file that is too long.
-too_long_at : (held : Option FileContents) (t : Task) (text : Text) → refused_before t ≡ None → IfSome held (λ a. (name : Text) × (gathered (inputs_of t) a most_input ≡ TooLong name) × (text ≡ over_limit name InputBytes)) → IfSome held (λ a. TaskJob t a (Refused text))
+too_long_at : (held : Option FileContents) (t : Task) (text : Text) → refused_before t ≡ None → IfSome held (λ a. (name : Text) × (gathered (inputs_of t) a most_input ≡ TooLong name) × (text ≡ over_limit name InputBytes)) → IfSome held (λ a. TaskJob t a (Refused text) × InputsAreBytes t a)
 too_long_at None t text begun h = tt
-too_long_at (Some a) t text begun (name, g, e) = let P : Text → Type 0 = λ x. TaskJob t a (Refused x) in subst P (sym e) (too_long name begun g)
+too_long_at (Some a) t text begun (name, g, e) = let P : Text → Type 0 = λ x. TaskJob t a (Refused x) in (subst P (sym e) (too_long name begun g), λ inputs begun h. absurd (let both : TooLong name ≡ Whole inputs = sym g ∙ h in cc))
 
 -- The job of a task that is refused at once.
-pub not_begun_at : (held : Option FileContents) (t : Task) (text : Text) → refused_before t ≡ Some text → IfSome held (λ a. TaskJob t a (Refused text))
+pub not_begun_at : (held : Option FileContents) (t : Task) (text : Text) → refused_before t ≡ Some text → IfSome held (λ a. TaskJob t a (Refused text) × InputsAreBytes t a)
 not_begun_at None t text e = tt
-not_begun_at (Some a) t text e = not_begun text e
+not_begun_at (Some a) t text e = (not_begun text e, λ inputs begun h. absurd (let both : Some text ≡ None = sym e ∙ begun in cc))
+
+-- A task that is refused over its inputs, which are bytes.
+refused_with : (held : Option FileContents) (t : Task) (text : Text) → IfSome held (λ a. TaskJob t a (Refused text)) → IfSome held (InputsAreBytes t) → IfSome held (λ a. TaskJob t a (Refused text) × InputsAreBytes t a)
+refused_with None t text job are = tt
+refused_with (Some a) t text job are = (job, are)
 
 pub preparing_from_planning : (held : Option FileContents) (before now : Text → ℕ) (t : Task) (inputs : List NamedFile) (s : Stop) → refused_before t ≡ None
-    → IfSome held (λ a. gathered (inputs_of t) a most_input ≡ Whole inputs) → StopsWith (λ text. InputsJob t inputs (Refused text)) s → StopsPreparing held before now t s
-preparing_from_planning held before now t inputs (stop.Refused refusal) begun g d = decided_at held t inputs (Refused (refusal_text refusal)) begun g d
-preparing_from_planning held before now t inputs stop.NoMemory begun g d = tt
-preparing_from_planning held before now t inputs (stop.Usage line) begun g d = absurd d
-preparing_from_planning held before now t inputs (stop.CannotRead name) begun g d = absurd d
-preparing_from_planning held before now t inputs (stop.CannotWrite name) begun g d = absurd d
-preparing_from_planning held before now t inputs stop.CannotPrint begun g d = absurd d
+    → IfSome held (λ a. gathered (inputs_of t) a most_input ≡ Whole inputs) → Every (λ (e : NamedFile). IsBytes e.1) inputs → StopsWith (λ text. InputsJob t inputs (Refused text)) s → StopsPreparing held before now t s
+preparing_from_planning held before now t inputs (stop.Refused refusal) begun g are d = refused_with held t (refusal_text refusal) (decided_at held t inputs (Refused (refusal_text refusal)) begun g d) (inputs_at held t inputs g are)
+preparing_from_planning held before now t inputs stop.NoMemory begun g are d = tt
+preparing_from_planning held before now t inputs (stop.Usage line) begun g are d = absurd d
+preparing_from_planning held before now t inputs (stop.CannotRead name) begun g are d = absurd d
+preparing_from_planning held before now t inputs (stop.CannotWrite name) begun g are d = absurd d
+preparing_from_planning held before now t inputs stop.CannotPrint begun g are d = absurd d
 
 pub preparing_from_gathering : (held : Option FileContents) (before now : Text → ℕ) (t : Task) (s : Stop) → refused_before t ≡ None → StopsGathering held before now (inputs_of t) most_input s → StopsPreparing held before now t s
 preparing_from_gathering held before now t (stop.Refused refusal) begun h = too_long_at held t (refusal_text refusal) begun h
@@ -119,19 +149,20 @@ done_at : (words : List Text) (t : Task) (held new : Option FileContents) (write
 done_at words t None new writes lines e h all = tt
 done_at words t (Some a) new writes lines e h all = (writes, lines, asked t (Done writes lines) e h, all_is writes a new all)
 
+refused_job_at : (words : List Text) (t : Task) (held : Option FileContents) (text : Text) → task_of words ≡ Some t → IfSome held (λ a. TaskJob t a (Refused text) × InputsAreBytes t a) → IfSome held (λ a. HasJob words a (Refused text) × InputsHoldBytes words a)
+refused_job_at words t None text e h = tt
+refused_job_at words t (Some a) text e (job, are) = (asked t (Refused text) e job, inputs_of_words words t a e are)
+
 -- A stop of the writes or of the printed lines is a stop of the work.
 pub finish_stops : (words : List Text) (t : Task) (old new : HostState) (mid : Text → ℕ) (writes : List NamedFile) (lines : Text) (s : Stop) → task_of words ≡ Some t
     → ((name : Text) → old.writes name ≤ mid name)
     → IfSome old.files (λ a. TaskJob t a (Done writes lines))
     → AreOutputs t old.files (written_names writes)
-    → StopsFinishing mid new.writes old.out_faults new.out_faults old.files new.files writes s
+    → StopsFinishing mid new.writes old.out_faults new.out_faults old.files new.files old.out new.out writes s
     → StopsWork words old new s
-finish_stops words t old new mid writes lines (stop.CannotWrite name) e later done outputs h = (
-  t,
-  e,
-  outputs (string_bytes name) h.0,
-  omega (arith, later (string_bytes name), h.1),
-  written_at words t old.files writes lines (string_bytes name) e done h.0,
+finish_stops words t old new mid writes lines (stop.CannotWrite name) e later done outputs (h, out) = (
+  (t, e, outputs (string_bytes name) h.0, omega (arith, later (string_bytes name), h.1), written_at words t old.files writes lines (string_bytes name) e done h.0),
+  out,
 )
 finish_stops words t old new mid writes lines stop.CannotPrint e later done outputs h = (h.0, done_at words t old.files new.files writes lines e done h.1)
 finish_stops words t old new mid writes lines stop.NoMemory e later done outputs h = tt
@@ -145,7 +176,7 @@ same_at x y e = becomes_same x y (λ a b. b ≡ a) e (λ a. refl)
 -- A stop before anything is written is a stop of the work.
 pub prepare_stops : (words : List Text) (t : Task) (old new : HostState) (s : Stop) → task_of words ≡ Some t → new.files ≡ old.files → new.out ≡ old.out
     → StopsPreparing old.files old.reads new.reads t s → StopsWork words old new s
-prepare_stops words t old new (stop.Refused refusal) e files out h = (job_at words t old.files (Refused (refusal_text refusal)) e h, same_at _ _ files, same_at _ _ out)
+prepare_stops words t old new (stop.Refused refusal) e files out h = (refused_job_at words t old.files (refusal_text refusal) e h, same_at _ _ files, same_at _ _ out)
 prepare_stops words t old new (stop.CannotRead name) e files out h = ((t, e, h.0, h.1), same_at _ _ files, same_at _ _ out)
 prepare_stops words t old new stop.NoMemory e files out h = tt
 prepare_stops words t old new (stop.Usage line) e files out h = absurd h
@@ -201,33 +232,47 @@ pub outside_cause : (words : List Text) (old new : HostState) (s : Stop) (err er
 outside_cause words old new s err err' before now result h (inr (inl p)) is = inl p.1
 outside_cause words old new s err err' before now result h (inr (inr e)) is = cc
 outside_cause words old new (stop.CannotRead name) err err' before now result h (inl p) is = inr (inl (name.now, h.0, h.1, h.2, p.1))
-outside_cause words old new (stop.CannotWrite name) err err' before now result h (inl p) is = inr (inr (inl (string_bytes name, h, p.1)))
+outside_cause words old new (stop.CannotWrite name) err err' before now result h (inl p) is = inr (inr (inl (string_bytes name, h.0, h.1, p.1)))
 outside_cause words old new stop.CannotPrint err err' before now result h (inl p) is = inr (inr (inr (h, p.1)))
 outside_cause words old new (stop.Usage line) err err' before now result h (inl p) is = let e = p.0 in cc
 outside_cause words old new (stop.Refused refusal) err err' before now result h (inl p) is = let e = p.0 in cc
 outside_cause words old new stop.NoMemory err err' before now result h (inl p) is = let e = p.0 in cc
 
-usage_status : (words : List Text) (held : Option FileContents) (result : Status) → task_of words ≡ None → result ≡ status.Usage → IfSome held (λ a. HasStatus words a result)
-usage_status words None result e is = tt
-usage_status words (Some a) result e is = (Usage, no_task e, is)
+-- No two jobs of a command line differ.
+abbrev pub JobsAreOne : Type 0
+JobsAreOne = (words : List Text) (files : FileContents) (one other : Job) → InputsHoldBytes words files → HasJob words files one → HasJob words files other → one ≡ other
 
-refused_status : (words : List Text) (held : Option FileContents) (text : Text) (result : Status) → IfSome held (λ a. HasJob words a (Refused text)) → result ≡ status.Refused → IfSome held (λ a. HasStatus words a result)
-refused_status words None text result job is = tt
-refused_status words (Some a) text result job is = (Refused text, job, is)
+has_status : JobsAreOne → (words : List Text) (a : FileContents) (job : Job) (result : Status) → InputsHoldBytes words a → HasJob words a job → StatusOfJob job result → HasStatus words a result
+has_status law words a job result are has is = record { some = (job, has); each = λ other h. subst (λ (j : Job). StatusOfJob j result) (law words a job other are has h) is }
+
+no_words_read : (words : List Text) (a : FileContents) → task_of words ≡ None → InputsHoldBytes words a
+no_words_read words a none task e = absurd (let both : None ≡ Some task = sym none ∙ e in cc)
+
+usage_status : JobsAreOne → (words : List Text) (held : Option FileContents) (result : Status) → task_of words ≡ None → result ≡ status.Usage → IfSome held (λ a. HasStatus words a result)
+usage_status law words None result e is = tt
+usage_status law words (Some a) result e is = has_status law words a Usage result (no_words_read words a e) (no_task e) is
+
+refused_status : JobsAreOne → (words : List Text) (held : Option FileContents) (text : Text) (result : Status) → IfSome held (λ a. HasJob words a (Refused text) × InputsHoldBytes words a) → result ≡ status.Refused → IfSome held (λ a. HasStatus words a result)
+refused_status law words None text result job is = tt
+refused_status law words (Some a) text result (job, are) is = has_status law words a (Refused text) result are job is
+
+pub done_status : JobsAreOne → (words : List Text) (held new : Option FileContents) (out out' : Option Text) (result : Status) → IfSome held (InputsHoldBytes words) → IfSome held (λ a. EndsDone words a new out out') → result ≡ status.Done → IfSome held (λ a. HasStatus words a result)
+done_status law words None new out out' result are ends is = tt
+done_status law words (Some a) new out out' result are (writes, lines, job, ends) is = has_status law words a (Done writes lines) result are job is
 
 -- A stop comes with a risen count of failures, with a lack of memory, or with the status of the
 -- job.
-pub complete_at_stop : (words : List Text) (old new : HostState) (s : Stop) (err err' : Option Text) (before now : ℕ) (result : Status)
+pub complete_at_stop : JobsAreOne → (words : List Text) (old new : HostState) (s : Stop) (err err' : Option Text) (before now : ℕ) (result : Status)
     → StopsWork words old new s → Reports s err err' before now result
     → SomeRose old new before now ⊎ ((result ≡ status.NoMemory) ⊎ IfSome old.files (λ a. HasStatus words a result))
-complete_at_stop words old new s err err' before now result h (inr (inl p)) = inl (inr (inr (inr p.1)))
-complete_at_stop words old new s err err' before now result h (inr (inr e)) = inr (inl e)
-complete_at_stop words old new (stop.CannotRead name) err err' before now result h (inl p) = inl (inl (name.now, h.0.3.1))
-complete_at_stop words old new (stop.CannotWrite name) err err' before now result h (inl p) = inl (inr (inl (string_bytes name, h.3)))
-complete_at_stop words old new stop.CannotPrint err err' before now result h (inl p) = inl (inr (inr (inl h.0)))
-complete_at_stop words old new (stop.Usage line) err err' before now result h (inl p) = inr (inr (usage_status words old.files result h.0 p.0))
-complete_at_stop words old new (stop.Refused refusal) err err' before now result h (inl p) = inr (inr (refused_status words old.files _ result h.0 p.0))
-complete_at_stop words old new stop.NoMemory err err' before now result h (inl p) = inr (inl p.0)
+complete_at_stop law words old new s err err' before now result h (inr (inl p)) = inl (inr (inr (inr p.1)))
+complete_at_stop law words old new s err err' before now result h (inr (inr e)) = inr (inl e)
+complete_at_stop law words old new (stop.CannotRead name) err err' before now result h (inl p) = inl (inl (name.now, h.0.3.1))
+complete_at_stop law words old new (stop.CannotWrite name) err err' before now result h (inl p) = inl (inr (inl (string_bytes name, h.0.3)))
+complete_at_stop law words old new stop.CannotPrint err err' before now result h (inl p) = inl (inr (inr (inl h.0)))
+complete_at_stop law words old new (stop.Usage line) err err' before now result h (inl p) = inr (inr (usage_status law words old.files result h.0 p.0))
+complete_at_stop law words old new (stop.Refused refusal) err err' before now result h (inl p) = inr (inr (refused_status law words old.files _ result h.0 p.0))
+complete_at_stop law words old new stop.NoMemory err err' before now result h (inl p) = inr (inl p.0)
 
 -- A stop because of the words ends with the status of usage if no write to the standard error
 -- fails.
@@ -269,9 +314,9 @@ no_stop_is_done (stop.CannotWrite name) err err' before now result (inl p) is = 
 no_stop_is_done stop.CannotPrint err err' before now result (inl p) is = let e = p.0 in cc
 no_stop_is_done stop.NoMemory err err' before now result (inl p) is = let e = p.0 in cc
 
-refused_at : (words : List Text) (err err' : Option Text) (files : Option FileContents) (text : Text) → IfSome files (λ a. HasJob words a (Refused text)) → Gains (stop_line text) err err' → IfSome files (λ a. EndsRefused words a err err')
+refused_at : (words : List Text) (err err' : Option Text) (files : Option FileContents) (text : Text) → IfSome files (λ a. HasJob words a (Refused text) × InputsHoldBytes words a) → Gains (stop_line text) err err' → IfSome files (λ a. EndsRefused words a err err')
 refused_at words err err' None text job gains = tt
-refused_at words err err' (Some a) text job gains = (text, job, gains)
+refused_at words err err' (Some a) text (job, are) gains = (text, job, gains)
 
 -- The line of a stop that is a refusal is that of the refusal.
 pub refusal_told : (words : List Text) (old new : HostState) (s : Stop) (err err' : Option Text) (before now : ℕ) (result : Status)

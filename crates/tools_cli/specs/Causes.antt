@@ -1,6 +1,7 @@
 -- What holds if a command stops, for each reason (`Stop`).
 use Rattle.std.specs.Prelude.{◌≡◌, ◌⊎◌, ℕ, false, List, [], Contains, Option, None, IfSome, string_bytes}
 use Rattle.tool_io.specs.FilesAndSinks.{FileContents, Rose, Becomes, AppendsPrefix}
+use Rattle.tools_cli_spec.specs.Job.{InputsAreBytes}
 use Rattle.tools_cli_spec.specs.CommandLine.{Text, Task, inputs_of, may_print}
 use Rattle.tools_cli_spec.specs.Job.{TooLong, gathered, TaskJob, refused_before, most_input}
 use Rattle.tools_cli_spec.specs.Texts.{over_limit, invalid_text}
@@ -28,7 +29,7 @@ InvalidText file tree text = (item : Invalid) × IsFirstInvalid tree false item 
 
 -- What holds if reading the inputs of a task, or deciding over them, stops.
 abbrev pub StopsPreparing : Option FileContents → (Text → ℕ) → (Text → ℕ) → Task → Stop → Type 0
-StopsPreparing held before now task (Refused refusal) = IfSome held (λ files. TaskJob task files (job.Refused (refusal_text refusal)))
+StopsPreparing held before now task (Refused refusal) = IfSome held (λ files. TaskJob task files (job.Refused (refusal_text refusal)) × InputsAreBytes task files)
 StopsPreparing held before now task (CannotRead file) = (refused_before task ≡ None) × FailsAtItsTurn held before now (inputs_of task) most_input file.now
 StopsPreparing held before now task NoMemory = Unit {0}
 StopsPreparing held before now task _ = ⊥
@@ -66,8 +67,8 @@ StopsPrinting before now NoMemory = Unit {0}
 StopsPrinting before now _ = ⊥
 
 -- What holds if making the writes, and after all of them printing the lines, stops.
-abbrev pub StopsFinishing : (Text → ℕ) → (Text → ℕ) → ℕ → ℕ → Option FileContents → Option FileContents → List NamedFile → Stop → Type 0
-StopsFinishing before now put_before put_now old new writes (CannotWrite name) = FailsAtOne before now writes (string_bytes name)
-StopsFinishing before now put_before put_now old new writes CannotPrint = Rose put_before put_now × AllWritten writes old new
-StopsFinishing before now put_before put_now old new writes NoMemory = Unit {0}
-StopsFinishing before now put_before put_now old new writes _ = ⊥
+abbrev pub StopsFinishing : (Text → ℕ) → (Text → ℕ) → ℕ → ℕ → Option FileContents → Option FileContents → Option Text → Option Text → List NamedFile → Stop → Type 0
+StopsFinishing before now put_before put_now old new out out' writes (CannotWrite name) = FailsAtOne before now writes (string_bytes name) × Becomes out out' (λ a b. b ≡ a)
+StopsFinishing before now put_before put_now old new out out' writes CannotPrint = Rose put_before put_now × AllWritten writes old new
+StopsFinishing before now put_before put_now old new out out' writes NoMemory = Unit {0}
+StopsFinishing before now put_before put_now old new out out' writes _ = ⊥

@@ -10,7 +10,7 @@ use crate::work::run_command;
 use std::alloc::Global;
 use tool_io::{Files, Sink};
 use tools_cli_decide::said_to_tool;
-use tools_cli_proof::done_jobs_are_faithful;
+use tools_cli_proof::{done_jobs_are_faithful, jobs_are_determined};
 use tools_cli_spec::Status;
 
 /// Does what the arguments `words` of a command line ask for: reads the files, writes the outputs,
@@ -69,7 +69,7 @@ pub fn run<F: Files, O: Sink, E: Sink>(
         (E.bytes err.old) (E.bytes err.new) (E.faults err.old) (E.faults err.new) }
 
     // If no count of faults rises and the contents of the files before are known, the status is
-    // that of the job, or `NoMemory`.
+    // that of each job of the arguments over these files (there is one), or `NoMemory`.
     ensures complete { SomeRose
         (record { files = F.contents files.old; reads = F.read_faults files.old; writes = F.write_faults files.old; out = O.bytes out.old; out_faults = O.faults out.old })
         (record { files = F.contents files.new; reads = F.read_faults files.new; writes = F.write_faults files.new; out = O.bytes out.new; out_faults = O.faults out.new })
@@ -80,6 +80,7 @@ pub fn run<F: Files, O: Sink, E: Sink>(
     ensures no_task { task_of (map string_bytes words.now) ≡ None → Rose (E.faults err.old) (E.faults err.new) ⊎ ((result ≡ Status.NoMemory) ⊎ (result ≡ Status.Usage)) }
 {
     done_jobs_are_faithful();
+    jobs_are_determined();
     let said = said_to_tool(alloc, words);
     match run_command(alloc, words, &said, files, out) {
         Ok(()) => Status::Done,

@@ -5,7 +5,7 @@ ghost use Rattle.wasm_bytes.specs.Reading.{IsBytes};
 ghost use Rattle.tool_io.specs.FilesAndSinks.{NoneFell, Becomes, AppendsPrefix};
 ghost use Rattle.tools_cli_spec.specs.Faithful.{HoldBytesAt, ReadsBytes};
 ghost use Rattle.tools_cli_spec.specs.Effects.{AreWrittenInPart, written_names};
-ghost use Rattle.tools_cli_spec.specs.Job.{InputsJob, TaskJob, Done, Refused, Whole, gathered, refused_before, most_input};
+ghost use Rattle.tools_cli_spec.specs.Job.{InputsAreBytes, InputsHoldBytes, InputsJob, TaskJob, Done, Refused, Whole, gathered, refused_before, most_input};
 ghost use Rattle.tools_cli_decide.specs.Command.{task_value, arguments_value, input_entries};
 ghost use Rattle.tools_cli.specs.Writes.{write_entries};
 ghost use Rattle.tools_cli.specs.Causes.{AreOutputs, PrintsAsAllowed, StopsGathering, StopsPreparing, StopsPrinting, StopsFinishing, AllWritten, PrintsAfter};
@@ -68,6 +68,7 @@ fn prepare<'a, F: Files>(alloc: Global, task: &Task<'a>, files: &mut F) -> Resul
     ensures outputs { IfOk result (λ plan. AreOutputs (task_value task.now) (F.contents files.old) (written_names (write_entries plan.writes.items))) }
     ensures lines { IfOk result (λ plan. PrintsAsAllowed (task_value task.now) plan.lines.items) }
     ensures bytes { OnOk result (IfSome (F.contents files.old) (HoldBytesAt (inputs_of (task_value task.now)))) }
+    ensures inputs { OnOk result (IfSome (F.contents files.old) (InputsAreBytes (task_value task.now))) }
     ensures stops { IfErr result (StopsPreparing (F.contents files.old) (F.read_faults files.old) (F.read_faults files.new) (task_value task.now)) }
 {
     if let Some(refusal) = task.refused_before() {
@@ -106,7 +107,7 @@ fn finish<'a, F: Files, O: Sink>(files: &mut F, out: &mut O, plan: Plan) -> Resu
     ensures writes { NoneFell (F.write_faults files.old) (F.write_faults files.new) }
     ensures later { O.faults out.old ≤ O.faults out.new }
     ensures stops { IfErr result (StopsFinishing (F.write_faults files.old) (F.write_faults files.new) (O.faults out.old) (O.faults out.new) (F.contents files.old) (F.contents files.new)
-        (write_entries plan.writes.items)) }
+        (O.bytes out.old) (O.bytes out.new) (write_entries plan.writes.items)) }
 {
     let Plan { writes, lines } = plan;
     write_outputs(files, writes)?;
@@ -130,6 +131,7 @@ pub(crate) fn run_command<'a, F: Files, O: Sink>(
     ensures no_lines { PrintsNothing (map string_bytes words.now) → IsSame (O.bytes out.old) (O.bytes out.new) }
     ensures done { OnOk result (IfSome (F.contents files.old) (λ a. EndsDone (map string_bytes words.now) a (F.contents files.new) (O.bytes out.old) (O.bytes out.new))) }
     ensures bytes { OnOk result (IfSome (F.contents files.old) (ReadsBytes (map string_bytes words.now))) }
+    ensures inputs { OnOk result (IfSome (F.contents files.old) (InputsHoldBytes (map string_bytes words.now))) }
     ensures no_task { task_of (map string_bytes words.now) ≡ None → IsUsage result }
     ensures stops { IfErr result (StopsWork (map string_bytes words.now)
         (record { files = F.contents files.old; reads = F.read_faults files.old; writes = F.write_faults files.old; out = O.bytes out.old; out_faults = O.faults out.old })

@@ -1,7 +1,7 @@
 mod Apart
 mod Lines
 mod NumberTexts
-pub mod Stops
+mod Stops
 mod SampleLimits
 mod SampleText
 mod FewInAll

@@ -7,7 +7,8 @@ use Rattle.tools_cli_spec.specs.Prelude.{TooLong, gathered, most_input, LoadsFil
 use Rattle.tools_cli_spec.specs.Prelude.{missing, too_long, all_read, HasJob, no_task, asked}
 use Rattle.tools_cli_spec.specs.Texts.{invalid_text, join_text}
 use Rattle.wasm_tree_spec.specs.Prelude.{InputBytes, Module}
-use Rattle.tools_cli_spec.specs.Job.{HoldBytes}
+use Rattle.base_lists.specs.Every.{Every}
+use Rattle.tools_cli_spec.specs.Job.{InputsAreBytes, InputsHoldBytes}
 use Rattle.dce_graph.specs.Laws.{ExactMarksAreOne}
 use Rattle.tools_cli_proof.proofs.Faithful.{whole_is, short_enough}
 use Rattle.tools_cli_proof.proofs.MetadceDecided.{metadce_once}
@@ -77,25 +78,7 @@ loads_once k many file bytes are one other (invalid tree item h first) (invalid 
 
 -- The contents of all these files are bytes.
 abbrev pub AreBytes : List NamedFile → Type 0
-AreBytes [] = Unit {0}
-AreBytes (e ∷ es) = IsBytes e.1 × AreBytes es
-
--- Gathered contents are bytes if the files hold bytes.
-first_bytes_are : (file : NamedFile) (g : Gathered) (inputs : List NamedFile) → IsBytes file.1 → ((rest : List NamedFile) → g ≡ Whole rest → AreBytes rest) → add_first file g ≡ Whole inputs → AreBytes inputs
-first_bytes_are file (Whole rest) inputs are more e = subst AreBytes (whole_is (file ∷ rest) inputs e) (are, more rest refl)
-first_bytes_are file (Lacks name) inputs are more e = absurd (cc)
-first_bytes_are file (TooLong name) inputs are more e = absurd (cc)
-
-file_bytes : (name : Text) (left : ℕ) (o : Option Text) (rest : ℕ → Gathered) (inputs : List NamedFile) → ((bytes : Text) → o ≡ Some bytes → IsBytes bytes)
-    → ((more : List NamedFile) (n : ℕ) → rest n ≡ Whole more → AreBytes more) → add_file name left o rest ≡ Whole inputs → AreBytes inputs
-file_bytes name left None rest inputs are more e = absurd (cc)
-file_bytes name left (Some bytes) rest inputs are more e =
-    first_bytes_are (name, bytes) (rest (left - length bytes)) inputs (are bytes refl) (λ r h. more r (left - length bytes) h) (short_enough (ltb left (length bytes)) name _ inputs e)
-
-pub gathered_bytes : (files : FileContents) → HoldBytes files → (names : List Text) (most : ℕ) (inputs : List NamedFile) → gathered names files most ≡ Whole inputs → AreBytes inputs
-gathered_bytes files hold [] most inputs e = subst AreBytes (whole_is [] inputs e) tt
-gathered_bytes files hold (name ∷ names) most inputs e =
-    file_bytes name most (get files name) (gathered names files) inputs (λ bytes h. hold name bytes h) (λ more n h. gathered_bytes files hold names n more h) e
+AreBytes = Every (λ (e : NamedFile). IsBytes e.1)
 
 decoding_is_unique : Known → (many : Bool) (file bytes : Text) → IsBytes bytes → (tree tree' : Module) → LoadsFile many file bytes (Ok tree) → LoadsFile many file bytes (Ok tree') → tree ≡ tree'
 decoding_is_unique reads many file bytes are tree tree' h k = let same : ◌≡◌ {A = Result Module Text} (Ok tree) (Ok tree') = loads_once reads many file bytes are (Ok tree) (Ok tree') h k in cc
@@ -183,7 +166,7 @@ inputs_once k t inputs are one other (decided trees decision loads d) (decided t
     let same = trees_once k (many_of t) (module_files t inputs) trees trees' loads loads' (first_are_bytes (length (modules_of t)) inputs are) in
     ap job_of (decides_once k t trees' (contents_of inputs) (first_is_bytes inputs are) decision decision' (subst P same d) d')
 
-task_jobs_once : Known → (t : Task) (files : FileContents) → HoldBytes files → (one other : Job) → TaskJob t files one → TaskJob t files other → one ≡ other
+task_jobs_once : Known → (t : Task) (files : FileContents) → InputsAreBytes t files → (one other : Job) → TaskJob t files one → TaskJob t files other → one ≡ other
 task_jobs_once reads t files hold one other (not_begun text e) (not_begun text' e') =
     let u = sym e ∙ e' in
     let same : text ≡ text' = cc in
@@ -208,13 +191,13 @@ task_jobs_once reads t files hold one other (all_read inputs job b e d) (too_lon
 task_jobs_once reads t files hold one other (all_read inputs job b e d) (all_read inputs' job' b' e' d') =
     let u = sym e ∙ e' in
     let same : inputs ≡ inputs' = cc in
-    inputs_once reads t inputs' (gathered_bytes files hold (inputs_of t) most_input inputs' e') job job' (let P : List NamedFile → Type 0 = λ l. InputsJob t l job in subst P same d) d'
+    inputs_once reads t inputs' (hold inputs' b' e') job job' (let P : List NamedFile → Type 0 = λ l. InputsJob t l job in subst P same d) d'
 
-pub jobs_once : Known → (words : List Text) (files : FileContents) → HoldBytes files → (one other : Job) → HasJob words files one → HasJob words files other → one ≡ other
+pub jobs_once : Known → (words : List Text) (files : FileContents) → InputsHoldBytes words files → (one other : Job) → HasJob words files one → HasJob words files other → one ≡ other
 jobs_once reads words files hold one other (no_task e) (no_task e') = refl
 jobs_once reads words files hold one other (no_task e) (asked t job e' h) = absurd (let u = sym e ∙ e' in cc)
 jobs_once reads words files hold one other (asked t job e h) (no_task e') = absurd (let u = sym e ∙ e' in cc)
 jobs_once reads words files hold one other (asked t job e h) (asked t' job' e' h') =
     let u = sym e ∙ e' in
     let same : t ≡ t' = cc in
-    task_jobs_once reads t' files hold job job' (let P : Task → Type 0 = λ x. TaskJob x files job in subst P same h) h'
+    task_jobs_once reads t' files (hold t' e') job job' (let P : Task → Type 0 = λ x. TaskJob x files job in subst P same h) h'

@@ -43,9 +43,6 @@ read_at files (s ∷ sources) (tree ∷ trees) h zero source part at is =
     subst (λ (t : Module). HasRead files source.file t) other (subst (λ (x : Source). HasRead files x.file tree) one (has_read files s.file tree h.0))
 read_at files (s ∷ sources) (tree ∷ trees) h (suc place) source part at is = read_at files sources trees h.1 place source part at is
 
-some_is : (a b : Text) → Some a ≡ Some b → a ≡ b
-some_is a b e = cc
-
 -- ---- merge ----
 
 merge_is : (merge : MergeTask) (before after : FileContents) (trees : List Module) (contents : List Text) (found : Findings (Merge merge)) (outputs : List Module) → HoldModules false before (source_files merge) trees → AreMade (Merge merge) trees contents found outputs
@@ -109,7 +106,8 @@ split_is split before after (tree ∷ []) (bytes ∷ []) names (first ∷ []) re
 split_is split before after (tree ∷ []) (bytes ∷ []) names (first ∷ second ∷ third ∷ outputs) read held made written accepted behaves also = absurd made
 split_is split before after (tree ∷ []) (bytes ∷ []) names (first ∷ second ∷ []) read held made written accepted behaves also =
     let there : get before split.file ≡ Some bytes = cc in
-    let same : read.0.0 ≡ bytes = some_is read.0.0 bytes (sym read.0.1 ∙ there) in
+    let both : Some read.0.0 ≡ Some bytes = sym read.0.1 ∙ there in
+    let same : read.0.0 ≡ bytes = cc in
     record {
       tree = tree;
       bytes = bytes;

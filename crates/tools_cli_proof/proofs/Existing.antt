@@ -7,7 +7,7 @@ use Rattle.tools_cli_spec.specs.Prelude.{Text, Source, MergeTask, Task, Merge, M
 use Rattle.tools_cli_spec.specs.Prelude.{Lacks, TooLong, gathered, most_input, LoadsFile, loaded, faulty, AllLoad, OneFails, Decision, Merges, not_linked, not_joined, merged, parts_of, sample_merge, sample_modules, Decides, job_of, module_files, contents_of, InputsJob, not_loaded, decided}
 use Rattle.tools_cli_spec.specs.Prelude.{refused_before, TaskJob, not_begun, missing, too_long, all_read, HasJob, no_task, asked}
 use Rattle.tools_cli_spec.specs.Texts.{invalid_text, import_mismatch, import_cycle, limits_clash, global_cycle, too_many_memories}
-use Rattle.tools_cli_spec.specs.Job.{HoldBytes}
+use Rattle.tools_cli_spec.specs.Job.{InputsAreBytes, InputsHoldBytes}
 use Rattle.wasm_tree_spec.specs.Prelude.{Module}
 use Rattle.wasm_read_spec.specs.declared.fault.ReadFault.{ReadFault}
 use Rattle.wasm_valid.specs.declared.kinds.Invalid.{Invalid}
@@ -26,7 +26,7 @@ use Rattle.tools_cli_proof.proofs.CtorEvalDecided.{eval_decides}
 use Rattle.tools_cli_proof.proofs.SampleDecided.{sample_decides}
 use Rattle.split_plan.specs.Causes.{FaultsHaveCauses}
 use Rattle.tools_cli_proof.proofs.Loads.{as_many}
-use Rattle.tools_cli_proof.proofs.Determined.{AreBytes, SpelledHasNoFault, FirstIsBytes, gathered_bytes, first_are_bytes, first_is_bytes}
+use Rattle.tools_cli_proof.proofs.Determined.{AreBytes, SpelledHasNoFault, FirstIsBytes, first_are_bytes, first_is_bytes}
 use Rattle.wasm_read_spec.specs.declared.fault.ReadFault.TheVariants as fault
 use Rattle.merge_spec.specs.declared.faults.LinkFault.TheVariants as link
 use Rattle.merge_spec.specs.declared.faults.JoinFault.TheVariants as join
@@ -164,24 +164,24 @@ gathered_count : (files : FileContents) (names : List Text) (most : ℕ) (inputs
 gathered_count files [] most inputs e = let same : [] ≡ inputs = cc in ap length (sym same)
 gathered_count files (name ∷ names) most inputs e = file_count name most (get files name) (gathered names files) inputs (length names) (λ more n h. gathered_count files names n more h) e
 
-begun_job : Known → (t : Task) (files : FileContents) → HoldBytes files → refused_before t ≡ None → (g : Gathered) → gathered (inputs_of t) files most_input ≡ g → (job : Job) × TaskJob t files job
+begun_job : Known → (t : Task) (files : FileContents) → InputsAreBytes t files → refused_before t ≡ None → (g : Gathered) → gathered (inputs_of t) files most_input ≡ g → (job : Job) × TaskJob t files job
 begun_job k t files hold begun (Lacks name) e = (_, missing name begun e)
 begun_job k t files hold begun (TooLong name) e = (_, too_long name begun e)
 begun_job k t files hold begun (Whole inputs) e =
     let count = gathered_count files (inputs_of t) most_input inputs e in
     let both = length-append (modules_of t) (texts_of t) in
     let enough : length (modules_of t) ≤ length inputs = omega arith in
-    let are = gathered_bytes files hold (inputs_of t) most_input inputs e in
+    let are = hold inputs begun e in
     let told = over_inputs k t inputs are enough count (files_load k (many_of t) (module_files t inputs) (first_are_bytes (length (modules_of t)) inputs are)) in
     (told.0, all_read inputs told.0 begun e told.1)
 
-task_job : Known → (t : Task) (files : FileContents) → HoldBytes files → (o : Option Text) → refused_before t ≡ o → (job : Job) × TaskJob t files job
+task_job : Known → (t : Task) (files : FileContents) → InputsAreBytes t files → (o : Option Text) → refused_before t ≡ o → (job : Job) × TaskJob t files job
 task_job k t files hold (Some text) e = (_, not_begun text e)
 task_job k t files hold None e = begun_job k t files hold e _ refl
 
-words_job : Known → (words : List Text) (files : FileContents) → HoldBytes files → (o : Option Task) → task_of words ≡ o → (job : Job) × HasJob words files job
+words_job : Known → (words : List Text) (files : FileContents) → InputsHoldBytes words files → (o : Option Task) → task_of words ≡ o → (job : Job) × HasJob words files job
 words_job k words files hold None e = (_, no_task e)
-words_job k words files hold (Some t) e = let told = task_job k t files hold _ refl in (told.0, asked t told.0 e told.1)
+words_job k words files hold (Some t) e = let told = task_job k t files (hold t e) _ refl in (told.0, asked t told.0 e told.1)
 
-pub job_exists : Known → (words : List Text) (files : FileContents) → HoldBytes files → (job : Job) × HasJob words files job
+pub job_exists : Known → (words : List Text) (files : FileContents) → InputsHoldBytes words files → (job : Job) × HasJob words files job
 job_exists k words files hold = words_job k words files hold _ refl

@@ -9,7 +9,7 @@ use Rattle.tools_cli_spec.specs.Prelude.{not_begun, missing, too_long, all_read,
 use Rattle.tools_cli_spec.specs.Job.{Missing}
 use Rattle.tools_cli_spec.specs.Texts.{too_many}
 use Rattle.wasm_tree.specs.declared.which.Which.TheVariants.{OutputBytes}
-use Rattle.tools_cli_spec.specs.Run.{JobIsDone, ChangesByTheJob, PrintsForTheJob, EndsDone, EndsRefused, HasOutsideCause, HasStatus, IsSame}
+use Rattle.tools_cli_spec.specs.Run.{JobIsDone, ChangesByTheJob, PrintsForTheJob, EndsDone, EndsRefused, HasOutsideCause, HasStatus, StatusOfJob, IsSame}
 use Rattle.tools_cli_spec.specs.declared.status.Status.{Status}
 use Rattle.tools_cli_proof.specs.RunsInFull.{TaskIsDone, Gained, AllMade, DoneInFull, RefusedInFull, FirstWrites, ChangesInFull, PrintsInFull, ReadFails, WriteFails, PrintFails, OutsideInFull, StatusInFull}
 use Rattle.tools_cli_proof.proofs.Faithful.{written_there, written_elsewhere}
@@ -59,19 +59,16 @@ known : {A : Type 0} (held : Option A) (P : A → Type 0) → IfSome held P → 
 known (Some x) P h a is = let same : x ≡ a = cc in subst P same h
 known None P h a is = absurd (cc)
 
-unlike : (x y : Text) → (x ≡ y → ⊥) → bytes_eq x y ≡ false
-unlike x y never = by (bytes_eq x y) refl
-  where
-    by : (b : Bool) → bytes_eq x y ≡ b → bytes_eq x y ≡ false
-    by true e = absurd (never ((bytes_eq-Decides x y).0 e))
-    by false e = e
+unlike : (x y : Text) (b : Bool) → bytes_eq x y ≡ b → (x ≡ y → ⊥) → b ≡ false
+unlike x y true e never = absurd (never ((bytes_eq-Decides x y).0 e))
+unlike x y false e never = refl
 
 -- Names that are not written are unchanged.
 others_unchanged : (writes : List NamedFile) (files : FileContents) (name : Text) → (Contains (written_names writes) name → ⊥) → get (made writes files) name ≡ get files name
 others_unchanged [] files name never = refl
 others_unchanged (w ∷ writes) files name never =
     let rest = others_unchanged writes (insert files w.0 w.1) name (λ (k, lt, is). never (suc k, omega (arith, lt), is)) in
-    rest ∙ written_elsewhere files name w.0 w.1 (unlike name w.0 (λ same. never (0, omega arith, sym same)))
+    rest ∙ written_elsewhere files name w.0 w.1 (unlike name w.0 (bytes_eq name w.0) refl (λ same. never (0, omega arith, sym same)))
 
 last_holds : (writes earlier later : List NamedFile) (write : NamedFile) (files : FileContents) → writes ≡ earlier ++ write ∷ later → (Contains (written_names later) write.0 → ⊥) → get (made writes files) write.0 ≡ Some write.1
 last_holds writes [] later write files e never =
@@ -127,7 +124,7 @@ outside_in_full words old new err err' before now (inr (inl (name, (task, is, be
       out = stays old.out new.out out;
       printed = gained _ err err' gains;
     }))
-outside_in_full words old new err err' before now (inr (inr (inl (name, (task, is, (texts, held, output), risen, job), gains)))) =
+outside_in_full words old new err err' before now (inr (inr (inl (name, (task, is, (texts, held, output), risen, job), out, gains)))) =
     inr (inr (inl (record {
       task = task;
       name = name;
@@ -136,6 +133,7 @@ outside_in_full words old new err err' before now (inr (inr (inl (name, (task, i
       held = known old.files _ held;
       output = output;
       risen = risen;
+      out = stays old.out new.out out;
       job = λ files there. let (writes, lines, one, has) = known old.files _ job files there in (writes, lines, done_of words files writes lines one, has);
       printed = gained _ err err' gains;
     })))
@@ -146,9 +144,19 @@ outside_in_full words old new err err' before now (inr (inr (inr ((risen, job), 
       printed = gained _ err err' gains;
     })))
 
+some_job : (words : List Text) (files : FileContents) (s : Status) (job : Job) → HasJob words files job → StatusOfJob job s
+    → (task_of words ≡ None) ⊎ ((task : Task) × (task_of words ≡ Some task) × (((text : Text) × TaskJob task files (Refused text)) ⊎ ((writes : List NamedFile) × (lines : Text) × TaskJob task files (Done writes lines))))
+some_job words files s _ (no_task none) is = inl none
+some_job words files s Usage (asked task _ e h) is = absurd (no_usage task files Usage h refl)
+some_job words files s Missing (asked task _ e h) is = absurd is
+some_job words files s (Refused text) (asked task _ e h) is = inr (task, e, inl (text, h))
+some_job words files s (Done writes lines) (asked task _ e h) is = inr (task, e, inr (writes, lines, h))
+
 pub status_in_full : (words : List Text) (files : FileContents) (s : Status) → HasStatus words files s → StatusInFull words files s
-status_in_full words files s (Usage, no_task none, is) = inl (none, is)
-status_in_full words files s (Usage, asked task _ e h, is) = absurd (no_usage task files Usage h refl)
-status_in_full words files s (Missing, job, is) = absurd is
-status_in_full words files s (Refused text, job, is) = let (task, e, one) = refused_of words files text job in inr (inl (task, text, e, one, is))
-status_in_full words files s (Done writes lines, job, is) = inr (inr (writes, lines, done_of words files writes lines job, is))
+status_in_full words files s h =
+    record {
+      some = some_job words files s h.some.0 h.some.1 (h.each h.some.0 h.some.1);
+      usage = λ none. h.each Usage (no_task none);
+      refused = λ task text e job. h.each (Refused text) (asked task (Refused text) e job);
+      done = λ task writes lines e job. h.each (Done writes lines) (asked task (Done writes lines) e job);
+    }

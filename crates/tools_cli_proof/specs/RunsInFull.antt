@@ -84,7 +84,7 @@ pub record ReadFails (words : List Text) (old new : HostState) (err err' : Optio
   pub printed : Gained (codes "binkit: " ++ (codes "cannot read " ++ name ++ codes "\n")) err err'
 
 -- A file could not be written: the task may write it, and if the contents of the files are known,
--- then the task is done and writes it.
+-- then the task is done and writes it. Standard output is unchanged.
 pub record WriteFails (words : List Text) (old new : HostState) (err err' : Option Text) : Type 0 where
   pub task : Task
   pub name : Text
@@ -93,6 +93,7 @@ pub record WriteFails (words : List Text) (old new : HostState) (err err' : Opti
   pub held : (files : FileContents) → old.files ≡ Some files → map (get files) (texts_of task) ≡ map Some texts
   pub output : Contains (outputs_of task texts) name
   pub risen : HasRisen (old.writes name) (new.writes name)
+  pub out : (bytes : Text) → old.out ≡ Some bytes → new.out ≡ Some bytes
   pub job : (files : FileContents) → old.files ≡ Some files → (writes : List NamedFile) × (lines : Text) × TaskIsDone words files writes lines × Contains (written_names writes) name
   pub printed : Gained (codes "binkit: " ++ (codes "cannot write " ++ name ++ codes "\n")) err err'
 
@@ -109,9 +110,11 @@ pub record PrintFails (words : List Text) (old new : HostState) (err err' : Opti
 abbrev pub OutsideInFull : List Text → HostState → HostState → Option Text → Option Text → ℕ → ℕ → Type 0
 OutsideInFull words old new err err' before now = HasRisen before now ⊎ (ReadFails words old new err err' ⊎ (WriteFails words old new err err' ⊎ PrintFails words old new err err'))
 
--- `HasStatus`: the command line asks for no task; or its task is refused; or its task is done.
-abbrev pub StatusInFull : List Text → FileContents → Status → Type 0
-StatusInFull words files s =
-    ((task_of words ≡ None) × (s ≡ status.Usage))
-    ⊎ (((task : Task) × (text : Text) × (task_of words ≡ Some task) × TaskJob task files (Refused text) × (s ≡ status.Refused))
-    ⊎ ((writes : List NamedFile) × (lines : Text) × TaskIsDone words files writes lines × (s ≡ status.Done)))
+-- `HasStatus`: the command line asks for no task, or its task is refused, or its task is done; and
+-- whatever job it has over these files, the status is that of this job.
+pub record StatusInFull (words : List Text) (files : FileContents) (s : Status) : Type 0 where
+  pub some : (task_of words ≡ None) ⊎ ((task : Task) × (task_of words ≡ Some task) ×
+      (((text : Text) × TaskJob task files (Refused text)) ⊎ ((writes : List NamedFile) × (lines : Text) × TaskJob task files (Done writes lines))))
+  pub usage : task_of words ≡ None → s ≡ status.Usage
+  pub refused : (task : Task) (text : Text) → task_of words ≡ Some task → TaskJob task files (Refused text) → s ≡ status.Refused
+  pub done : (task : Task) (writes : List NamedFile) (lines : Text) → task_of words ≡ Some task → TaskJob task files (Done writes lines) → s ≡ status.Done

@@ -3,7 +3,7 @@
 ghost use Rattle.std.specs.Prelude.{◌≡◌, List, ℕ};
 ghost use Rattle.tool_io.specs.FilesAndSinks.{FileContents};
 ghost use Rattle.tools_cli_spec.specs.Effects.{NamedFile, made};
-ghost use Rattle.tools_cli_spec.specs.Job.{Done, Job, HasJob, HoldBytes};
+ghost use Rattle.tools_cli_spec.specs.Job.{Done, Job, HasJob, InputsHoldBytes};
 ghost use Rattle.tools_cli_spec.specs.Faithful.{IsFaithful, ReadsBytes, SplitWordsAreText};
 
 use crate::evaluated::{
@@ -35,9 +35,9 @@ use wasm_write_proof::{
     canonical_encoding_encodes, encoded_trees_are_in_range, trees_that_fit_have_small_sizes,
 };
 
-/// States that a command line has at most one job over some files, if these hold bytes.
+/// States that a command line has at most one job over some files, if those that it reads hold bytes.
 pub fn jobs_are_determined()
-    ensures { (words : List (List ℕ)) (files : FileContents) (one other : Job) → HoldBytes files → HasJob words files one → HasJob words files other → one ≡ other }
+    ensures { (words : List (List ℕ)) (files : FileContents) (one other : Job) → InputsHoldBytes words files → HasJob words files one → HasJob words files other → one ≡ other }
 {
     decoding_is_unique();
     no_fault_where_encoded();
@@ -45,9 +45,9 @@ pub fn jobs_are_determined()
     name_lists_are_those_of_the_first_name_section();
 }
 
-/// States that every command line has a job over files that hold bytes.
+/// States that every command line has a job over some files, if those that it reads hold bytes.
 pub fn command_lines_have_jobs()
-    ensures exists { (words : List (List ℕ)) (files : FileContents) → HoldBytes files → (job : Job) × HasJob words files job }
+    ensures exists { (words : List (List ℕ)) (files : FileContents) → InputsHoldBytes words files → (job : Job) × HasJob words files job }
 {
     no_fault_where_encoded();
     faults_have_causes();

@@ -2,6 +2,7 @@
 use Rattle.std.specs.Prelude.{◌≡◌, ◌⊎◌, ℕ, ◌-◌, ltb, not, if◌then◌else◌, Bool, false, List, [], ◌∷◌, ◌++◌, length, map, take, Option, Some, None, option_map, codes, Result, Ok, Err}
 use Rattle.std.specs.FinMap.{get}
 use Rattle.std.specs.List.{list_all, cons_option}
+use Rattle.base_lists.specs.Every.{Every}
 use Rattle.tool_io.specs.FilesAndSinks.{FileContents}
 use Rattle.wasm_bytes.specs.Prelude.{IsBytes}
 use Rattle.tools_cli_spec.specs.CommandLine.{Text, Source, MergeTask, MetadceTask, SplitTask, CtorEvalTask, SampleTask, Task, Merge}
@@ -293,6 +294,11 @@ pub data HasJob (words : List Text) (files : FileContents) : Job → Type 0 wher
   no_task : task_of words ≡ None → HasJob words files Usage
   asked : (task : Task) (job : Job) → task_of words ≡ Some task → TaskJob task files job → HasJob words files job
 
--- The files hold numbers below 256.
-abbrev pub HoldBytes : FileContents → Type 0
-HoldBytes files = (name bytes : Text) → get files name ≡ Some bytes → IsBytes bytes
+-- If the task is begun and all its files can be read, these hold numbers below 256.
+abbrev pub InputsAreBytes : Task → FileContents → Type 0
+InputsAreBytes task files =
+    (inputs : List NamedFile) → refused_before task ≡ None → gathered (inputs_of task) files most_input ≡ Whole inputs → Every (λ file. IsBytes file.1) inputs
+
+-- This holds of the task of these arguments, if they ask for one.
+abbrev pub InputsHoldBytes : List Text → FileContents → Type 0
+InputsHoldBytes words files = (task : Task) → task_of words ≡ Some task → InputsAreBytes task files

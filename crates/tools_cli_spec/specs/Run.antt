@@ -72,9 +72,10 @@ StatusOfJob Missing s = ⊥
 StatusOfJob (Refused text) s = s ≡ status.Refused
 StatusOfJob (Done writes lines) s = s ≡ status.Done
 
--- The arguments have a job over these files, and this is its status.
-abbrev pub HasStatus : List Text → FileContents → Status → Type 0
-HasStatus words files s = (job : Job) × HasJob words files job × StatusOfJob job s
+-- The arguments have a job over these files, and this is the status of each such job.
+pub record HasStatus (words : List Text) (files : FileContents) (s : Status) : Type 0 where
+  pub some : (job : Job) × HasJob words files job
+  pub each : (job : Job) → HasJob words files job → StatusOfJob job s
 
 -- The files and standard output, with their counts of faults, before or after a run.
 pub record HostState : Type 0 where
@@ -89,7 +90,7 @@ abbrev pub HasOutsideCause : List Text → HostState → HostState → Option Te
 HasOutsideCause words old new err err' before now =
     Rose before now
     ⊎ (((name : Text) × FailsToRead words old.files old.reads new.reads name × IsSame old.files new.files × IsSame old.out new.out × Gains (stop_line (cannot_read name)) err err')
-    ⊎ (((name : Text) × FailsToWrite words old.files old.writes new.writes name × Gains (stop_line (cannot_write name)) err err')
+    ⊎ (((name : Text) × FailsToWrite words old.files old.writes new.writes name × IsSame old.out new.out × Gains (stop_line (cannot_write name)) err err')
     ⊎ (FailsToPrint words old.files new.files old.out_faults new.out_faults × Gains (stop_line cannot_print) err err')))
 
 -- A count of faults has risen.

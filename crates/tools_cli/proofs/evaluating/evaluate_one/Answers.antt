@@ -1,3 +1,4 @@
+use Rattle.tools_cli.proofs.Loading.{stops_weaker}
 use Rattle.base_lists.proofs.Common.{◌≡◌, ◌∙◌, ap, Err, arith}
 use Rattle.tools_cli_eval.specs.declared.evaluation.Evaluation.{Evaluation}
 use Rattle.tools_cli_spec.specs.Prelude.{Text, Evaluates, Refuses}
@@ -5,7 +6,6 @@ use Rattle.tools_cli_decide.specs.Prelude.{decision_value}
 use Rattle.tools_cli_decide.specs.Command.{ctor_eval_value}
 use Rattle.tools_cli_decide.specs.Causes.{EvalFails}
 use Rattle.tools_cli_spec.specs.EvaluationLines.{lines_after}
-use Rattle.tools_cli_decide.proofs.Stops.{stops_weaker}
 use Rattle.tools_cli.proofs.CtorEvalDecided.{eval_refused, evaluated_made}
 use Rattle.tools_cli.proofs.evaluating.evaluate_one.Goals as goal
 

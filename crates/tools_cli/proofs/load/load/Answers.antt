@@ -2,8 +2,7 @@ use Rattle.base_lists.proofs.Common.{◌≡◌, false, Ok, Err, IfOk-weaker, IfE
 use Rattle.tools_cli_spec.specs.Prelude.{Text, LoadsFile, IsReadAs, IsAccepted}
 use Rattle.tools_cli_decide.specs.Prelude.{StopsWith}
 use Rattle.tools_cli.specs.Causes.{InvalidText}
-use Rattle.tools_cli.proofs.Loading.{faulty_from, loaded_from, invalid_from}
-use Rattle.tools_cli_decide.proofs.Stops.{stops_weaker}
+use Rattle.tools_cli.proofs.Loading.{stops_weaker, faulty_from, loaded_from, invalid_from}
 use Rattle.tools_cli.proofs.load.load.Goals as goal
 
 pub returns-in-Ok-clause-loaded : goal.returns-in-Ok-clause-loaded

@@ -1,8 +1,7 @@
 use Rattle.base_lists.proofs.Common.{◌≡◌, false, Err, arith}
 use Rattle.tools_cli_spec.specs.Prelude.{Text, LoadsFile, OneFails}
 use Rattle.tools_cli_decide.specs.Prelude.{input_entries}
-use Rattle.tools_cli.proofs.Loading.{short_input, all_load, fails_here}
-use Rattle.tools_cli_decide.proofs.Stops.{stops_weaker}
+use Rattle.tools_cli.proofs.Loading.{stops_weaker, short_input, all_load, fails_here}
 use Rattle.tools_cli.proofs.load.load_all.Goals as goal
 
 pub load-requires : goal.load-requires

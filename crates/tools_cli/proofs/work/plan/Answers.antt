@@ -2,9 +2,8 @@ use Rattle.base_lists.proofs.Common.{◌≡◌, ◌∙◌, refl, ap, false, Err,
 use Rattle.tools_cli_spec.specs.Prelude.{Text, Decides, Refuses, Done, Refused, OneFails, InputsJob, job_of}
 use Rattle.tools_cli_decide.specs.Prelude.{task_value, decision_value, input_entries, input_texts, total, StopsWith}
 use Rattle.tools_cli.specs.Writes.{write_entries}
-use Rattle.tools_cli_decide.proofs.Stops.{stops_weaker}
 use Rattle.tools_cli_proof.proofs.Loads.{as_many}
-use Rattle.tools_cli.proofs.Loading.{loads_within, inputs_once}
+use Rattle.tools_cli.proofs.Loading.{stops_weaker, loads_within, inputs_once}
 use Rattle.tools_cli.proofs.Deciding.{total_first, entries_first, input_contents, modules_there, inputs_there, job_made, job_not_loaded}
 use Rattle.tools_cli.proofs.work.plan.Goals as goal
 

@@ -1,11 +1,13 @@
 use Rattle.base_lists.proofs.Common.{◌≡◌, rules, IfSome, Some, None, Err, arith, IfOk-weaker, IfErr-weaker}
-use Rattle.tools_cli_spec.specs.Prelude.{Text, inputs_of, written_names, InputsJob, TaskJob, Done, Refused, Whole, gathered, refused_before, most_input}
+use Rattle.base_lists.specs.Every.{Every}
+use Rattle.wasm_bytes.specs.Prelude.{IsBytes}
+use Rattle.tools_cli_spec.specs.Prelude.{NamedFile, Text, inputs_of, written_names, InputsJob, TaskJob, Done, Refused, Whole, gathered, refused_before, most_input}
 use Rattle.tools_cli_decide.specs.Prelude.{task_value, input_entries, refusal_text, StopsWith}
 use Rattle.tools_cli.specs.Writes.{write_entries}
 use Rattle.tools_cli.specs.Causes.{PrintsAsAllowed}
 use Rattle.tools_cli.specs.Causes.{AreOutputs, StopsPreparing}
 use Rattle.tools_cli.proofs.Deciding.{text_contents, inputs_job_allowed}
-use Rattle.tools_cli.proofs.Running.{texts_held, decided_at, not_begun_at, preparing_from_planning, preparing_from_gathering}
+use Rattle.tools_cli.proofs.Running.{inputs_at, texts_held, decided_at, not_begun_at, preparing_from_planning, preparing_from_gathering}
 use Rattle.tools_cli.proofs.FaithfulEnds.{on_ok, read_bytes}
 use Rattle.tools_cli.proofs.work.prepare.Goals as goal
 
@@ -53,8 +55,9 @@ returns-clause-stops g c =
     let inputs = input_entries c.as_slice.result.now in
     let begun : refused_before t ≡ None = search rules in
     let whole : IfSome held (λ a. gathered (inputs_of t) a most_input ≡ Whole inputs) = rw c.as_slice.ensures.value c.in_ok-inputs.ensures.whole in
+    let are : Every (λ (e : NamedFile). IsBytes e.1) inputs = rw c.as_slice.ensures.value c.in_ok-inputs.ensures.bytes in
     let P : Text → Type 0 = λ text. InputsJob t inputs (Refused text) in
-    IfErr-weaker c.plan.result (StopsWith P) (StopsPreparing held before now t) (λ s d. preparing_from_planning held before now t inputs s begun whole d) c.plan.ensures.stops
+    IfErr-weaker c.plan.result (StopsWith P) (StopsPreparing held before now t) (λ s d. preparing_from_planning held before now t inputs s begun whole are d) c.plan.ensures.stops
 
 pub returns-in_err-inputs-clause-stops : goal.returns-in_err-inputs-clause-stops
 returns-in_err-inputs-clause-stops g c =
@@ -76,3 +79,10 @@ returns-clause-bytes g c =
     let t = task_value c.args.task.now in
     let inputs = input_entries c.in_ok-inputs.inputs.items in
     on_ok c.plan.result (read_bytes held t inputs c.in_ok-inputs.ensures.whole c.in_ok-inputs.ensures.bytes)
+
+pub returns-clause-inputs : goal.returns-clause-inputs
+returns-clause-inputs g c =
+    let held = g.F.Files.contents c.args.files.now in
+    let t = task_value c.args.task.now in
+    let inputs = input_entries c.in_ok-inputs.inputs.items in
+    on_ok c.plan.result (inputs_at held t inputs c.in_ok-inputs.ensures.whole c.in_ok-inputs.ensures.bytes)

@@ -4,7 +4,7 @@ use Rattle.tools_cli.specs.Writes.{write_entries}
 use Rattle.tools_cli_spec.specs.Prelude.{task_of, HostState}
 use Rattle.tools_cli.specs.Causes.{StopsFinishing}
 use Rattle.tools_cli.specs.Work.{StopsWork}
-use Rattle.tools_cli.proofs.Running.{changes_from_cut, prints_from_lines, ends_done, finish_stops, prepare_stops, has_no_lines}
+use Rattle.tools_cli.proofs.Running.{words_at, changes_from_cut, prints_from_lines, ends_done, finish_stops, prepare_stops, has_no_lines}
 use Rattle.tools_cli.proofs.FaithfulEnds.{on_ok, words_read}
 use Rattle.tools_cli.proofs.work.run_command.Goals as goal
 
@@ -32,7 +32,7 @@ returns-clause-stops g c =
     let old : HostState = record { files = g.F.Files.contents c.args.files.now; reads = g.F.Files.read_faults c.args.files.now; writes = g.F.Files.write_faults c.args.files.now; out = g.O.Sink.bytes c.args.out.now; out_faults = g.O.Sink.faults c.args.out.now } in
     let new : HostState = record { files = g.F.Files.contents c.finish.new.files; reads = g.F.Files.read_faults c.finish.new.files; writes = g.F.Files.write_faults c.finish.new.files; out = g.O.Sink.bytes c.finish.new.out; out_faults = g.O.Sink.faults c.finish.new.out } in
     IfErr-weaker c.finish.result
-    (StopsFinishing (g.F.Files.write_faults c.prepare.new.files) new.writes old.out_faults new.out_faults old.files new.files entries)
+    (StopsFinishing (g.F.Files.write_faults c.prepare.new.files) new.writes old.out_faults new.out_faults old.files new.files old.out new.out entries)
     (StopsWork words old new)
     (λ s. finish_stops words t old new (g.F.Files.write_faults c.prepare.new.files) entries c.in_ok-plan.plan.lines.items s asked c.prepare.ensures.writes c.in_ok-plan.ensures.plan c.in_ok-plan.ensures.outputs)
     (rw c.prepare.ensures.stays at c.finish.ensures.stops)
@@ -57,3 +57,8 @@ pub returns-clause-bytes : goal.returns-clause-bytes
 returns-clause-bytes g c =
     let asked : task_of (map string_bytes c.args.words.now) ≡ Some (task_value c.in-Some.task) = search rules in
     on_ok c.finish.result (words_read (g.F.Files.contents c.args.files.now) (map string_bytes c.args.words.now) (task_value c.in-Some.task) asked c.in_ok-plan.ensures.bytes)
+
+pub returns-clause-inputs : goal.returns-clause-inputs
+returns-clause-inputs g c =
+    let asked : task_of (map string_bytes c.args.words.now) ≡ Some (task_value c.in-Some.task) = search rules in
+    on_ok c.finish.result (words_at (g.F.Files.contents c.args.files.now) (map string_bytes c.args.words.now) (task_value c.in-Some.task) asked c.in_ok-plan.ensures.inputs)
