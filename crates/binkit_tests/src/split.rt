@@ -602,7 +602,7 @@ fn add_many_params(bytes: &mut Vec<u8>) -> Result<(), Fail> {
 
 // A function without parameters, exported as k, and 4,001 functions of 1,000 parameters, the first
 // of which is exported as l.
-fn many_params(alloc: Global) -> Result<Vec<u8>, Fail> {
+pub(crate) fn many_params(alloc: Global) -> Result<Vec<u8>, Fail> {
     let mut bytes = module_of(alloc, "01 F0 07 02 60 00 00 60 E8 07")?;
     add_many_params(&mut bytes)?;
     Ok(bytes)

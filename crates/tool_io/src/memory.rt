@@ -2,6 +2,7 @@
 ghost use Rattle.std.specs.Prelude.{◌≡◌, ◌≤◌, ◌++◌, ◌∷◌, ◌↔◌, ◌||◌, [], true, false, Some, None, IfOk, IfSome, OnOk, OnErr, IsErrOf, IsTrue, option_map, option_copied, find, bytes_eq, string_bytes};
 ghost use Rattle.std.specs.FinMap.{empty, get, insert};
 ghost use Rattle.tool_io.specs.Memory.{one_more, next_fails, is_missing, called, faulted, holding, first_half, next_put_fails, gained, gained_at_fault};
+ghost use Rattle.wasm_bytes.specs.Reading.{IsBytes};
 ghost use Rattle.tool_io.specs.FilesAndSinks.{Rose, NoneFell, Becomes, IsUnchangedOrCut, AppendsPrefix, first_bytes};
 
 use crate::{Files, IoFault, Sink};
@@ -39,6 +40,11 @@ fn newest<'a>(log: &'a VecDeque<(String, Vec<u8>)>, name: &str) -> Option<&'a (S
 {
     log.iter().find(|write| name == write.0.as_str())
 }
+
+// States that the elements of a slice of bytes are below 256.
+fn are_bytes(bytes: &[u8])
+    ensures { IsBytes bytes.now }
+{}
 
 impl MemFiles {
     /// Returns a map without files, with no calls so far and no chosen numbers.
@@ -85,10 +91,15 @@ impl MemFiles {
 
     /// Returns the bytes of a name, or `None` exactly if the name is missing.
     pub fn contents(&self, name: &str) -> Option<&[u8]>
-        ensures { option_map (λ b. b.now) result ≡ get self.now.contents name.now }
+        ensures held { option_map (λ b. b.now) result ≡ get self.now.contents name.now }
+        ensures bytes { IfSome (get self.now.contents name.now) IsBytes }
     {
         match newest(&self.log, name) {
-            Some(write) => Some(write.1.as_slice()),
+            Some(write) => {
+                let bytes = write.1.as_slice();
+                are_bytes(bytes);
+                Some(bytes)
+            }
             None => None,
         }
     }

@@ -1,9 +1,9 @@
 // What a task decides over what it has read.
-ghost use Rattle.std.specs.Prelude.{◌≡◌, ◌≤◌, ◌∷◌, [], length, None, IfOk, IfErr};
+ghost use Rattle.std.specs.Prelude.{◌≡◌, ◌≤◌, length, None, IfOk, IfErr};
 ghost use Rattle.base_lists.specs.Every.{Every};
 ghost use Rattle.tools_cli_spec.specs.CommandLine.{modules_of, inputs_of};
-ghost use Rattle.tools_cli_decide.specs.Command.{task_value, output_value, decision_value, input_entries, input_texts};
-ghost use Rattle.tools_cli_spec.specs.Job.{Decides, Makes, Refuses, refused_before, most_input};
+ghost use Rattle.tools_cli_decide.specs.Command.{task_value, decision_value, input_entries, input_texts};
+ghost use Rattle.tools_cli_spec.specs.Job.{Decides, Refuses, refused_before, most_input};
 ghost use Rattle.tools_cli_decide.specs.Causes.{IsWithinLimits, StopsWith, total};
 
 use crate::evaluating::decide_ctor_eval;

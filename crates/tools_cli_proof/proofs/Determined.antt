@@ -1,16 +1,15 @@
 -- A command line has at most one job.
-use Rattle.base_lists.proofs.Common.{Bool, take, zero, suc, ltb, ◌-◌, ◌↔◌, ◌≡◌, ◌∙◌, sym, refl, ap, ap₂, subst, inl, inr, ℕ, List, [], ◌∷◌, Option, Some, None, Result, Ok, Err, false, length, get}
+use Rattle.base_lists.proofs.Common.{Bool, take, zero, suc, ◌↔◌, ◌≡◌, ◌∙◌, sym, refl, ap, ap₂, subst, inl, inr, ℕ, List, [], ◌∷◌, Some, None, Result, Ok, Err, false, length}
 use Rattle.wasm_bytes.specs.Prelude.{IsBytes}
 use Rattle.tool_io.specs.FilesAndSinks.{FileContents}
-use Rattle.tools_cli_spec.specs.Prelude.{Text, MergeTask, Task, Merge, Metadce, Split, CtorEval, Sample, source_files, many_of, modules_of, inputs_of, NamedFile, fault_text, link_text, over_limit, IsReadAs, IsAccepted, invalid, Job, Refused, Gathered, add_first, add_file, Whole, Lacks}
-use Rattle.tools_cli_spec.specs.Prelude.{TooLong, gathered, most_input, LoadsFile, loaded, faulty, AllLoad, OneFails, Decision, Refuses, Makes, Merges, not_linked, not_joined, merged, parts_of, Decides, job_of, module_files, contents_of, InputsJob, not_loaded, decided, TaskJob, not_begun}
+use Rattle.tools_cli_spec.specs.Prelude.{Text, MergeTask, Task, Merge, Metadce, Split, CtorEval, Sample, source_files, many_of, modules_of, NamedFile, fault_text, link_text, over_limit, IsReadAs, IsAccepted, invalid, Job, Refused}
+use Rattle.tools_cli_spec.specs.Prelude.{LoadsFile, loaded, faulty, AllLoad, OneFails, Decision, Refuses, Makes, Merges, not_linked, not_joined, merged, parts_of, Decides, job_of, module_files, contents_of, InputsJob, not_loaded, decided, TaskJob, not_begun}
 use Rattle.tools_cli_spec.specs.Prelude.{missing, too_long, all_read, HasJob, no_task, asked}
 use Rattle.tools_cli_spec.specs.Texts.{invalid_text, join_text}
 use Rattle.wasm_tree_spec.specs.Prelude.{InputBytes, Module}
 use Rattle.base_lists.specs.Every.{Every}
 use Rattle.tools_cli_spec.specs.Job.{InputsAreBytes, InputsHoldBytes}
 use Rattle.dce_graph.specs.Laws.{ExactMarksAreOne}
-use Rattle.tools_cli_proof.proofs.Faithful.{whole_is, short_enough}
 use Rattle.tools_cli_proof.proofs.MetadceDecided.{metadce_once}
 use Rattle.tools_cli_proof.proofs.SplitDecided.{NamesAreRead, split_once}
 use Rattle.tools_cli_proof.proofs.CtorEvalDecided.{eval_once}

@@ -1,19 +1,17 @@
 -- The headline of each command follows from that of all commands.
-use Rattle.base_lists.proofs.Common.{◌≡◌, ◌∙◌, refl, sym, ap, subst, ℕ, zero, suc, List, [], ◌∷◌, length, map, Option, Some, None, option_map, option_or, cons_option, slice_get, IfSome, arith, get, false}
+use Rattle.base_lists.proofs.Common.{◌≡◌, ◌∙◌, refl, sym, ap, subst, ℕ, zero, suc, List, [], ◌∷◌, length, map, Option, Some, None, option_map, cons_option, slice_get, IfSome, get, false}
 use Rattle.base_lists.specs.Every.{Every}
 use Rattle.tool_io.specs.FilesAndSinks.{FileContents}
 use Rattle.wasm_tree_spec.specs.Prelude.{Module}
-use Rattle.wasm_names.specs.declared.func_name.FuncName.{FuncName}
 use Rattle.wasm_read_spec.specs.Prelude.{Spells}
 use Rattle.merge_names.specs.declared.mode.Mode.TheVariants.{Refuse}
 use Rattle.merge_spec.specs.Prelude.{joined_module, repeated_name}
 use Rattle.module_limits.specs.Counts.{over_limit}
-use Rattle.dce_graph.specs.declared.marks.Reached.{Reached}
 use Rattle.dce_spec.specs.Reached.{marks_of}
 use Rattle.dce_spec.specs.Swept.{swept}
 use Rattle.eval_snapshot_spec.specs.Evaluated.{evaluated_tree, first_missing}
 use Rattle.tools_cli_spec.specs.declared.evaluation.EvalFault.TheVariants.{NoSuchExport, TooMany}
-use Rattle.tools_cli_spec.specs.Prelude.{Text, Source, MergeTask, MetadceTask, SplitTask, CtorEvalTask, SampleTask, Task, Merge, Metadce, Split, CtorEval, Sample, task_of, source_files, parts_of, words_plan, IsAccepted, inputs_of}
+use Rattle.tools_cli_spec.specs.Prelude.{Text, Source, MergeTask, MetadceTask, SplitTask, CtorEvalTask, SampleTask, Task, Merge, Metadce, Split, CtorEval, Sample, task_of, source_files, parts_of, words_plan, IsAccepted}
 use Rattle.tools_cli_spec.specs.Faithful.{HoldsModule, HoldModules, Findings, AreMade, equivalence, Holds, FurtherClaims, TaskIsSound, EndsFaithful, output_names}
 use Rattle.tools_cli_proof.specs.Headlines.{two_parts, HasRead, HasWritten, MergeIsFaithful, MetadceIsFaithful, SplitIsFaithful, CtorEvalIsFaithful, SampleIsWritten, SampleIsFaithful}
 use Rattle.tools_cli_proof.proofs.Faithful.{joins_to, sweeps_to, none_of_both, none_from}

@@ -1,17 +1,15 @@
 -- The clauses of `run`, written out.
-use Rattle.base_lists.proofs.Common.{◌≡◌, ◌∙◌, ◌⊎◌, inl, inr, refl, sym, ap, subst, ℕ, zero, suc, ◌≤◌, List, [], ◌∷◌, ◌++◌, length, take, Option, Some, None, IfSome, Contains, slice_get, arith, get, cond, bytes_eq, bytes_eq-Decides, true, false, Bool, map, list_all}
-use Rattle.std.specs.FinMap.{insert, get-insert}
-use Rattle.std.specs.Cmp.{eq_by_cmp_equiv}
-use Rattle.std.proofs.lemmas.Cmp.{nat_list_cmp_total}
+use Rattle.base_lists.proofs.Common.{◌≡◌, ◌∙◌, ◌⊎◌, inl, inr, refl, sym, ap, subst, ℕ, suc, List, [], ◌∷◌, ◌++◌, Option, Some, None, IfSome, Contains, arith, get, cond, bytes_eq, bytes_eq-Decides, true, false, Bool, map, list_all}
+use Rattle.std.specs.FinMap.{insert}
 use Rattle.tool_io.specs.FilesAndSinks.{FileContents, Becomes}
 use Rattle.tools_cli_spec.specs.Prelude.{Text, Task, task_of, NamedFile, made, AreWrittenInPart, written_names, Job, Usage, Refused, Done, HasJob, no_task, asked, TaskJob}
 use Rattle.tools_cli_spec.specs.Prelude.{not_begun, missing, too_long, all_read, InputsJob, not_loaded, decided, Decision, Refuses, Makes, job_of, is_within, spelled_output, HostState}
 use Rattle.tools_cli_spec.specs.Job.{Missing}
 use Rattle.tools_cli_spec.specs.Texts.{too_many}
 use Rattle.wasm_tree.specs.declared.which.Which.TheVariants.{OutputBytes}
-use Rattle.tools_cli_spec.specs.Run.{JobIsDone, ChangesByTheJob, PrintsForTheJob, EndsDone, EndsRefused, HasOutsideCause, HasStatus, StatusOfJob, IsSame}
+use Rattle.tools_cli_spec.specs.Run.{ChangesByTheJob, PrintsForTheJob, EndsDone, EndsRefused, HasOutsideCause, HasStatus, StatusOfJob, IsSame}
 use Rattle.tools_cli_spec.specs.declared.status.Status.{Status}
-use Rattle.tools_cli_proof.specs.RunsInFull.{TaskIsDone, Gained, AllMade, DoneInFull, RefusedInFull, FirstWrites, ChangesInFull, PrintsInFull, ReadFails, WriteFails, PrintFails, OutsideInFull, StatusInFull}
+use Rattle.tools_cli_proof.specs.RunsInFull.{TaskIsDone, Gained, AllMade, DoneInFull, RefusedInFull, FirstWrites, ChangesInFull, PrintsInFull, OutsideInFull, StatusInFull}
 use Rattle.tools_cli_proof.proofs.Faithful.{written_there, written_elsewhere}
 
 -- ---- jobs of a task ----

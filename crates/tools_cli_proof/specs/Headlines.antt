@@ -1,6 +1,6 @@
 -- The headline of each command, written out: what a command that is done has written, and what an
 -- embedder sees of it.
-use Rattle.std.specs.Prelude.{false, ◌≡◌, ℕ, ◌+◌, ◌*◌, List, [], ◌∷◌, length, Option, Some, None, Ok, take, slice_get, IsTrue, codes}
+use Rattle.std.specs.Prelude.{false, ◌≡◌, ℕ, ◌+◌, ◌*◌, List, [], ◌∷◌, length, Some, None, Ok, take, slice_get, IsTrue, codes}
 use Rattle.std.specs.FinMap.{get}
 use Rattle.tool_io.specs.FilesAndSinks.{FileContents}
 use Rattle.wasm_tree_spec.specs.Prelude.{Module}

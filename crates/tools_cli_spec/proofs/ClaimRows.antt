@@ -1,9 +1,8 @@
 -- The environments and the bounds of each claim, computed; and an environment that does not link
 -- the parts of a merge, or the module of a split.
-use Rattle.base_lists.proofs.Common.{◌≡◌, refl, sym, subst, ℕ, List, [], ◌∷◌, true, Option, Some, None, IsTrue, codes}
+use Rattle.base_lists.proofs.Common.{◌≡◌, refl, subst, ℕ, List, [], ◌∷◌, true, IsTrue}
 use Rattle.wasm_tree.specs.declared.instr.Instr.{out-Instr}
-use Rattle.wasm_tree_spec.specs.Prelude.{Module}
-use Rattle.wasm_meaning.specs.Prelude.{Environment, is_environment, Event, Linked, LinkFault, IsPrefix}
+use Rattle.wasm_meaning.specs.Prelude.{Environment, Event, Linked, LinkFault, IsPrefix}
 use Rattle.merge_spec.specs.Merged.{all_exports}
 use Rattle.merge_spec.specs.View.{all_entities, merge_view}
 use Rattle.tools_cli_spec.specs.Prelude.{Merge, Split}

@@ -1,6 +1,6 @@
 -- Two wrong secondary modules, for which it is false that the secondary module always loads: one
 -- imports what the primary module does not export, and a segment of the other one traps.
-use Rattle.base_lists.proofs.Common.{◌≡◌, ◌∙◌, refl, sym, ap, subst, ℕ, List, [], ◌∷◌, true, false, Option, Some, None, slice_get, pos, codes}
+use Rattle.base_lists.proofs.Common.{◌≡◌, ◌∙◌, refl, sym, subst, ℕ, List, [], ◌∷◌, true, Some, None, slice_get, pos, codes}
 use Rattle.std.specs.Fmt.{digits}
 use Rattle.wasm_tree.specs.declared.instr.Instr.{out-Instr}
 use Rattle.wasm_num.specs.Operations.{wrapped}
@@ -13,7 +13,7 @@ use Rattle.wasm_tree.specs.declared.module.ConstExpr.TheVariants as const
 use Rattle.wasm_tree.specs.declared.module.ElemMode.TheVariants as elem
 use Rattle.wasm_tree.specs.declared.module.ImportDesc.TheVariants as im
 use Rattle.wasm_tree.specs.declared.types.RefType.TheVariants.{Func as func_ref}
-use Rattle.tools_cli_spec.proofs.FaithfulRows.{a, f, asking, with, import, func, splitting, keeping, moving, offering, f_moves}
+use Rattle.tools_cli_spec.proofs.FaithfulRows.{a, f, asking, with, import, splitting, keeping, moving, offering, f_moves}
 
 abbrev added_under : LoaderWorld → Inst → Module → Store → Option Added
 added_under w i m s = secondary_added w.import_namespace w.primary i m s

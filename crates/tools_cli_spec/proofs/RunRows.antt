@@ -1,9 +1,9 @@
 -- What the clauses of `run` do not allow: lists of different lengths, a text that is no line, lines
 -- of a merge, a status of a missing file.
-use Rattle.base_lists.proofs.Common.{◌≡◌, refl, ◌⊎◌, inl, inr, ℕ, Bool, true, false, cond, List, [], ◌∷◌, ◌++◌, get_or, bytes_eq, codes, arith}
+use Rattle.base_lists.proofs.Common.{◌≡◌, refl, ◌⊎◌, inl, inr, Bool, true, false, cond, List, [], ◌∷◌, get_or, bytes_eq, codes, arith}
 use Rattle.tool_io.specs.FilesAndSinks.{FileContents}
 use Rattle.wasm_tree_spec.specs.Prelude.{Module}
-use Rattle.tools_cli_spec.specs.Prelude.{Text, MergeTask, Merge, Decision, Makes, Merges, merged, Output}
+use Rattle.tools_cli_spec.specs.Prelude.{Text, MergeTask, Merge, Makes, Merges, merged, Output}
 use Rattle.tools_cli_spec.specs.CommandLine.{may_print, usage_line}
 use Rattle.tools_cli_spec.specs.Job.{Missing}
 use Rattle.tools_cli_spec.specs.ErrorLines.{IsLine, usage, fault_line, invalid_line, parts_line, link_line, join_line, graph_line, plan_line, split_line, eval_line, output_line, cannot_read_line, cannot_write_line, cannot_print_line, no_memory_line}

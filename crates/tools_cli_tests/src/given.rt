@@ -257,6 +257,27 @@ pub fn module_of_tables(
     Ok(bytes)
 }
 
+fn add_times(bytes: &mut Vec<u8>, count: usize, text: &str) -> Result<(), Fail> {
+    for _ in 0..count {
+        add_bytes(bytes, text)?;
+    }
+    Ok(())
+}
+
+fn add_blocks(bytes: &mut Vec<u8>, count: usize) -> Result<(), Fail> {
+    add_times(bytes, count, "02 40")?;
+    add_times(bytes, count, "0B")?;
+    add_bytes(bytes, "0B")
+}
+
+// A module whose last body has so many blocks, each in the one before: `head` are its sections up
+// to the first block.
+pub fn module_of_blocks(alloc: Global, head: &str, count: usize) -> Result<Vec<u8>, Fail> {
+    let mut bytes = module_of(alloc, head)?;
+    add_blocks(&mut bytes, count)?;
+    Ok(bytes)
+}
+
 // Merges a.wasm of these bytes alone into o.wasm.
 pub fn merge_one(alloc: Global, bytes: &[u8]) -> Result<Ran, Fail> {
     let files = with_file(MemFiles::new(alloc), "a.wasm", bytes)?;
