@@ -1,6 +1,6 @@
 -- Two wrong secondary modules, for which it is false that the secondary module always loads: one
 -- imports what the primary module does not export, and a segment of the other one traps.
-use Rattle.base_lists.proofs.Common.{◌≡◌, ◌∙◌, refl, sym, subst, ℕ, List, [], ◌∷◌, true, Some, None, slice_get, pos, codes}
+use Rattle.base_lists.proofs.Common.{◌≡◌, ◌∙◌, refl, sym, subst, ℕ, List, [], ◌∷◌, true, Option, Some, None, slice_get, pos, codes}
 use Rattle.std.specs.Fmt.{digits}
 use Rattle.wasm_tree.specs.declared.instr.Instr.{out-Instr}
 use Rattle.wasm_num.specs.Operations.{wrapped}
